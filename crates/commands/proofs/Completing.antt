@@ -7,14 +7,14 @@ use Rattle.ports.specs.Lines.{most_taken, whole_lines}
 use Rattle.problem_model.specs.Problem.{ProblemLists, IsProblem}
 use Rattle.problem.specs.Line.{HasEvent, IsUnknown}
 use Rattle.decl.specs.Declaration.{Declaration}
-use Rattle.decl.specs.Walk.{Declares, IsFirstFault}
+use Rattle.decl.specs.Walk.{IsDocumentOf, IsFirstFault}
 use Rattle.decl.specs.declared.errors.DeclError.TheVariants as faults
 use Rattle.decl.specs.declared.errors.Section.{Section}
 use Rattle.session.specs.Script.{Devices, OfScript, Replied}
 use Rattle.commands.specs.Asked.{Asked, help_text, version_text}
 use Rattle.commands.specs.Asked.Asked.{Obey, Solve, Ends, Verify, Session, Trial, Widen, Judge, Mergecap, Help, Version, Nothing}
 use Rattle.commands.specs.Runs.{Answers}
-use Rattle.commands.specs.Complete.{Holds, HoldsProblem, IsExecutionText, IsCertText, IsWideningText, IsLawful, IsFaultless, IsAnswered}
+use Rattle.commands.specs.Complete.{Holds, HoldsProblem, IsExecutionText, IsCertText, IsWideningText, IsLawfulInput, IsFaultless, IsAnswered}
 use Rattle.problem_commands.specs.Intervals.{IntervalAnswered}
 use Rattle.merge_script.specs.Turns.{reads}
 use Rattle.merge_script.specs.Gathered as merging
@@ -248,11 +248,11 @@ module _ (old new : Devices) (none : IsFaultless old new) where
   not_long None P short long = absurd short
   not_long (Some bytes) P short long = omega (arith, short, long.0)
 
-  no_fault_at : (decl : List ℕ) (d : Declaration) (number : ℕ) (section : Section) (index : ℕ) (files : Content) → Holds files decl (λ bytes. Declares bytes d) → IsFaultAt files decl number section index → ⊥
+  no_fault_at : (decl : List ℕ) (d : Declaration) (number : ℕ) (section : Section) (index : ℕ) (files : Content) → Holds files decl (λ bytes. IsDocumentOf bytes d) → IsFaultAt files decl number section index → ⊥
   no_fault_at decl d number section index files held fault =
-      no_bytes (λ bytes. Declares bytes d) (λ bytes. IsFirstFault bytes (faults.Fault number section index)) files decl (λ bytes is first. no_bad_decl bytes d number section index is first) held fault
+      no_bytes (λ bytes. IsDocumentOf bytes d) (λ bytes. IsFirstFault bytes (faults.Fault number section index)) files decl (λ bytes is first. no_bad_decl bytes d number section index is first) held fault
 
-  session_goes : (decl : List ℕ) (IsWritten : List ℕ → Type 0) → ((d : Declaration) × Holds old.files.content decl (λ bytes. Declares bytes d)) → IsSomeAnd old.input.left (λ bytes. length bytes ≤ most_taken)
+  session_goes : (decl : List ℕ) (IsWritten : List ℕ → Type 0) → ((d : Declaration) × Holds old.files.content decl (λ bytes. IsDocumentOf bytes d)) → IsSomeAnd old.input.left (λ bytes. length bytes ≤ most_taken)
       → (status : Status) → TellsSession decl old new IsWritten status → IsAnswered status
   session_goes decl IsWritten lawful short statuses.Done goes = inl refl
   session_goes decl IsWritten lawful short statuses.No goes = absurd goes
@@ -261,7 +261,7 @@ module _ (old new : Devices) (none : IsFaultless old new) where
   session_goes decl IsWritten lawful short statuses.BadProblem goes = absurd goes
   session_goes decl IsWritten lawful short statuses.BadExec goes = absurd goes
   session_goes decl IsWritten lawful short statuses.BadCert goes = absurd goes
-  session_goes decl IsWritten (d, held) short statuses.ReadFault (inl (missed, same, written)) = absurd (not_missed (λ bytes. Declares bytes d) decl old.files new.files held none.files missed)
+  session_goes decl IsWritten (d, held) short statuses.ReadFault (inl (missed, same, written)) = absurd (not_missed (λ bytes. IsDocumentOf bytes d) decl old.files new.files held none.files missed)
   session_goes decl IsWritten lawful short statuses.ReadFault (inr (d, has, (rose, taken))) = absurd (none.input rose)
   session_goes decl IsWritten lawful short statuses.WriteFault goes = absurd goes
   session_goes decl IsWritten lawful short statuses.Memory goes = absurd goes
@@ -269,7 +269,7 @@ module _ (old new : Devices) (none : IsFaultless old new) where
   session_goes decl IsWritten lawful short statuses.UnknownEvent goes = absurd goes
   session_goes decl IsWritten lawful short statuses.NoMerge goes = absurd goes
 
-  session_answered : (decl : List ℕ) (result : Status) → ((d : Declaration) × Holds old.files.content decl (λ bytes. Declares bytes d)) × IsSomeAnd old.input.left (λ bytes. length bytes ≤ most_taken)
+  session_answered : (decl : List ℕ) (result : Status) → ((d : Declaration) × Holds old.files.content decl (λ bytes. IsDocumentOf bytes d)) × IsSomeAnd old.input.left (λ bytes. length bytes ≤ most_taken)
       → Conducted decl old new result → IsAnswered result
   session_answered decl result lawful (inl goes) = session_goes decl (Appends old.out.written new.out.written) lawful.0 lawful.1 result goes
   session_answered decl result lawful (inr (inl (is, (rose, failed)))) = absurd (none.out rose)
@@ -277,7 +277,7 @@ module _ (old new : Devices) (none : IsFaultless old new) where
 
 -- ---- a merge
 module _ (files files' : FilesTold) (input input' : SourceTold) (out out' : SinkTold) (no_file : Rose files.faults files'.faults → ⊥) (no_read : Rose input.faults input'.faults → ⊥) (no_write : Rose out.faults out'.faults → ⊥) where
-  long_merge : (d : Declaration) (script : Option (List ℕ)) → IsSomeAnd script (λ bytes. length bytes ≤ most_taken) → OfScript script (merging.IsTooLong d (reads files input) (reads files' input')) → ⊥
+  long_merge : (d : Declaration) (script : Option (List ℕ)) → IsSomeAnd script (λ bytes. length bytes ≤ most_taken) → OfScript script (merging.IsScriptTooLong d (reads files input) (reads files' input')) → ⊥
   long_merge d None short long = absurd short
   long_merge d (Some bytes) short is = let long = is.long in omega (arith, short, long)
 
@@ -292,23 +292,23 @@ module _ (files files' : FilesTold) (input input' : SourceTold) (out out' : Sink
   over_goes d short status text (inr (whys.Limit, not, tells)) = absurd (long_merge d input.left short not)
   over_goes d short status text (inr (whys.Memory, not, tells)) = absurd tells
 
-  merge_fault : (decl : List ℕ) (d : Declaration) (number : ℕ) (section : Section) (index : ℕ) → Holds files.content decl (λ bytes. Declares bytes d) → IsFaultAt files.content decl number section index → ⊥
+  merge_fault : (decl : List ℕ) (d : Declaration) (number : ℕ) (section : Section) (index : ℕ) → Holds files.content decl (λ bytes. IsDocumentOf bytes d) → IsFaultAt files.content decl number section index → ⊥
   merge_fault decl d number section index held fault =
-      no_bytes (λ bytes. Declares bytes d) (λ bytes. IsFirstFault bytes (faults.Fault number section index)) files.content decl (λ bytes is first. no_bad_decl bytes d number section index is first) held fault
+      no_bytes (λ bytes. IsDocumentOf bytes d) (λ bytes. IsFirstFault bytes (faults.Fault number section index)) files.content decl (λ bytes is first. no_bad_decl bytes d number section index is first) held fault
 
-  merged_goes : (decl : List ℕ) → ((d : Declaration) × Holds files.content decl (λ bytes. Declares bytes d)) → IsSomeAnd input.left (λ bytes. length bytes ≤ most_taken) → (status : Status) (text : List ℕ) →
+  merged_goes : (decl : List ℕ) → ((d : Declaration) × Holds files.content decl (λ bytes. IsDocumentOf bytes d)) → IsSomeAnd input.left (λ bytes. length bytes ≤ most_taken) → (status : Status) (text : List ℕ) →
       MergedAt decl (reads files input) (reads files' input') status text → IsAnswered status
   merged_goes decl lawful short status text (inl (d, has, over)) = over_goes d short status text over
   merged_goes decl (d, held) short status text (inr (undeclared.Faulty number section index, fault, same, tells)) = absurd (merge_fault decl d number section index held fault)
-  merged_goes decl (d, held) short status text (inr (undeclared.Unread, missed, same, tells)) = absurd (not_missed (λ bytes. Declares bytes d) decl files files' held no_file missed)
+  merged_goes decl (d, held) short status text (inr (undeclared.Unread, missed, same, tells)) = absurd (not_missed (λ bytes. IsDocumentOf bytes d) decl files files' held no_file missed)
   merged_goes decl lawful short status text (inr (undeclared.Memory, is, same, tells)) = absurd tells
 
-  mergecap_answered : (decl : List ℕ) (result : Status) → ((d : Declaration) × Holds files.content decl (λ bytes. Declares bytes d)) × IsSomeAnd input.left (λ bytes. length bytes ≤ most_taken)
+  mergecap_answered : (decl : List ℕ) (result : Status) → ((d : Declaration) × Holds files.content decl (λ bytes. IsDocumentOf bytes d)) × IsSomeAnd input.left (λ bytes. length bytes ≤ most_taken)
       → Prints (MergedAt decl (reads files input) (reads files' input')) out out' result → IsAnswered result
   mergecap_answered decl result lawful = printed (MergedAt decl (reads files input) (reads files' input')) out out' result (merged_goes decl lawful.0 lawful.1) no_write
 
 -- ---- whatever was asked for
-pub all_answered : HaveOneAnswer → (a : Asked) (old new : Devices) (result : Status) → Answers a old new result → IsLawful a old.files.content old.input.left → IsFaultless old new → IsAnswered result
+pub all_answered : HaveOneAnswer → (a : Asked) (old new : Devices) (result : Status) → Answers a old new result → IsLawfulInput a old.files.content old.input.left → IsFaultless old new → IsAnswered result
 all_answered law (Obey problem exec) old new result answers lawful none = obey_answered law old new none problem exec result lawful answers
 all_answered law (Solve problem) old new result answers lawful none = solve_answered law old new none problem result lawful answers
 all_answered law (Ends problem first second) old new result answers lawful none = ends_answered law old new none problem first second result lawful answers

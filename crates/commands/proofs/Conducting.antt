@@ -10,7 +10,7 @@ use Rattle.ports.specs.Lines.{whole_lines, lines_of, most_taken}
 use Rattle.replies.specs.Sessions.{Session, start}
 use Rattle.session.specs.declared.ended.Ended.{Ended}
 use Rattle.session.specs.declared.ended.Ended.TheVariants as ended
-use Rattle.session.specs.Script.{Devices, devices, OfScript, Replied, IsTaken, IsBegun, IsInterrupted, IsDone, IsScriptFault, IsTooLong, IsOutOfMemory, ScriptAnswered}
+use Rattle.session.specs.Script.{Devices, devices, OfScript, Replied, IsTakenFromScript, IsScriptBegun, IsInterrupted, IsDone, IsScriptFault, IsTooLong, IsOutOfMemory, ScriptAnswered}
 use Rattle.session.proofs.Replies.{counted_earlier}
 use Rattle.session.proofs.Places.{of_script}
 use Rattle.problem_commands.specs.Printing.{Closes, Prints}
@@ -38,19 +38,19 @@ module _ (d : Declaration) (files begun after : FilesTold) (input input' : Sourc
       (λ script. (length script ≤ most_taken) × (input'.left ≡ Some []) × Replied d (devices files input out) (devices after input' new) (lines_of script) Whole)
       (λ script r. (r.0, r.1, replied_on (lines_of script) r.2)) is
 
-  taken_on : (script : List ℕ) → IsTaken d (devices begun input out) (devices after input' mid) First script → IsTaken d (devices files input out) (devices after input' new) Whole script
+  taken_on : (script : List ℕ) → IsTakenFromScript d (devices begun input out) (devices after input' mid) First script → IsTakenFromScript d (devices files input out) (devices after input' new) Whole script
   taken_on script t = record { taken = t.taken; rest = t.rest; is = t.is; left = t.left; short = t.short; replied = replied_on (whole_lines t.taken) t.replied }
 
   fault_on : IsScriptFault d (devices begun input out) (devices after input' mid) First → IsScriptFault d (devices files input out) (devices after input' new) Whole
-  fault_on is = (is.0, of_script input.left (IsTaken d (devices begun input out) (devices after input' mid) First) (IsTaken d (devices files input out) (devices after input' new) Whole) taken_on is.1)
+  fault_on is = (is.0, of_script input.left (IsTakenFromScript d (devices begun input out) (devices after input' mid) First) (IsTakenFromScript d (devices files input out) (devices after input' new) Whole) taken_on is.1)
 
   limit_on : IsTooLong d (devices begun input out) (devices after input' mid) First → IsTooLong d (devices files input out) (devices after input' new) Whole
   limit_on is = of_script input.left (λ script. (most_taken < length script) × Replied d (devices begun input out) (devices after input' mid) (whole_lines (take most_taken script)) First)
       (λ script. (most_taken < length script) × Replied d (devices files input out) (devices after input' new) (whole_lines (take most_taken script)) Whole)
       (λ script r. (r.0, replied_on (whole_lines (take most_taken script)) r.1)) is
 
-  begun_on : OfScript input.left (IsBegun d (devices begun input out) (devices after input' mid) First) → OfScript input.left (IsBegun d (devices files input out) (devices after input' new) Whole)
-  begun_on is = of_script input.left (IsBegun d (devices begun input out) (devices after input' mid) First) (IsBegun d (devices files input out) (devices after input' new) Whole)
+  begun_on : OfScript input.left (IsScriptBegun d (devices begun input out) (devices after input' mid) First) → OfScript input.left (IsScriptBegun d (devices files input out) (devices after input' new) Whole)
+  begun_on is = of_script input.left (IsScriptBegun d (devices begun input out) (devices after input' mid) First) (IsScriptBegun d (devices files input out) (devices after input' new) Whole)
       (λ script b. record { lines = b.lines; more = b.more; are = b.are; replied = replied_on b.lines b.replied }) is
 
   interrupted_on : OfScript input.left (IsInterrupted d (devices begun input out) (devices after input' mid) First) → OfScript input.left (IsInterrupted d (devices files input out) (devices after input' new) Whole)

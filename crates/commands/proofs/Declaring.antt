@@ -6,7 +6,7 @@ use Rattle.decl.specs.declared.errors.DeclError.TheVariants as faults
 use Rattle.decl.specs.declared.errors.Section.{Section}
 use Rattle.decl.specs.declared.errors.Section.TheVariants.{Top}
 use Rattle.decl.specs.Declaration.{Declaration}
-use Rattle.decl.specs.Walk.{Declares, IsFirstFault}
+use Rattle.decl.specs.Walk.{IsDocumentOf, IsFirstFault}
 use Rattle.commands.specs.Sessions.{IsDeclaredAt, IsFaultAt}
 
 whole : (most : ℕ) (front bytes : List ℕ) (more : Bool) → more ≡ false → IsFront most front more bytes → front ≡ bytes
@@ -17,8 +17,8 @@ has_whole : (files : Content) (path front : List ℕ) (more : Bool) (most : ℕ)
 has_whole None path front more most P is_false has p = tt
 has_whole (Some files) path front more most P is_false has p = (has.0, has.1, subst P (whole most front has.0 more is_false has.2) p)
 
-pub declared_in : (files : Content) (path front : List ℕ) (more : Bool) (d : Declaration) → more ≡ false → HasBytes files path (IsFront 16777216 front more) → Declares front d → IsDeclaredAt files path d
-declared_in files path front more d is_false has is = has_whole files path front more 16777216 (λ bytes. Declares bytes d) is_false has is
+pub declared_in : (files : Content) (path front : List ℕ) (more : Bool) (d : Declaration) → more ≡ false → HasBytes files path (IsFront 16777216 front more) → IsDocumentOf front d → IsDeclaredAt files path d
+declared_in files path front more d is_false has is = has_whole files path front more 16777216 (λ bytes. IsDocumentOf bytes d) is_false has is
 
 pub faulty_in : (files : Content) (path front : List ℕ) (more : Bool) (number : ℕ) (section : Section) (index : ℕ) → more ≡ false → HasBytes files path (IsFront 16777216 front more) →
     IsFirstFault front (faults.Fault number section index) → IsFaultAt files path number section index

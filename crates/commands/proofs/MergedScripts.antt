@@ -15,11 +15,11 @@ use Rattle.session.proofs.Replies.{counted_earlier}
 use Rattle.session.proofs.Places.{of_script}
 use Rattle.merge_script.specs.declared.unmerged.Unmerged.{Unmerged}
 use Rattle.merge_script.specs.declared.unmerged.Unmerged.TheVariants as whys
-use Rattle.merge_script.specs.Gathered.{AreAdded, AddsAll, AddsScript, MergeReply, StopsAt, TakesPart, IsTooLong}
+use Rattle.merge_script.specs.Gathered.{AreAdded, AddsAll, AddsScript, MergeReply, StopsAt, TakesPart, IsScriptTooLong}
 use Rattle.merge_script.specs.Turns.{reads}
 use Rattle.merge_script.specs.Notes.{AreNoted, NotesAdded}
 use Rattle.merge_script.specs.Merged.{IsMergeOf, LacksMerge, OfAllAdded, MergesTo, MergesNot}
-use Rattle.problem_commands.specs.Printing.{IsOnly, Prints}
+use Rattle.problem_commands.specs.Printing.{IsOnlyText, Prints}
 use Rattle.commands.specs.Sessions.{IsDeclaredAt, IsUndeclared, TellsUndeclared}
 use Rattle.commands.specs.MergedCapture.{AreNotedAt, MergedAt, NotedAt, TellsUnmerged}
 use Rattle.commands.specs.declared.declaration.Undeclared.{Undeclared}
@@ -59,7 +59,7 @@ module _ (d : Declaration) (files begun after : FilesTold) (input input' : Sourc
   part_since : (script : List ℕ) → TakesPart d (reads begun input) (reads after input') script → TakesPart d (reads files input) (reads after input') script
   part_since script a = record { taken = a.taken; rest = a.rest; is = a.is; left = a.left; short = a.short; state = a.state; adds = adds_since (whole_lines a.taken) a.state a.adds }
 
-  long_since : (script : List ℕ) → IsTooLong d (reads begun input) (reads after input') script → IsTooLong d (reads files input) (reads after input') script
+  long_since : (script : List ℕ) → IsScriptTooLong d (reads begun input) (reads after input') script → IsScriptTooLong d (reads files input) (reads after input') script
   long_since script a = record { long = a.long; state = a.state; adds = adds_since (whole_lines (take most_taken script)) a.state a.adds }
 
   all_since : (Says : List (List Seen) → List Timed → Type 0) → OfScript input.left (OfAllAdded d (reads begun input) (reads after input') Says) → OfScript input.left (OfAllAdded d (reads files input) (reads after input') Says)
@@ -80,7 +80,7 @@ module _ (d : Declaration) (files begun after : FilesTold) (input input' : Sourc
   unmerged_since whys.Range is = all_since (λ seen all. LacksMerge d seen all whys.Range) is
   unmerged_since whys.ReadFault is =
       (is.0, of_script input.left (TakesPart d (reads begun input) (reads after input')) (TakesPart d (reads files input) (reads after input')) part_since is.1)
-  unmerged_since whys.Limit is = of_script input.left (IsTooLong d (reads begun input) (reads after input')) (IsTooLong d (reads files input) (reads after input')) long_since is
+  unmerged_since whys.Limit is = of_script input.left (IsScriptTooLong d (reads begun input) (reads after input')) (IsScriptTooLong d (reads files input) (reads after input')) long_since is
   unmerged_since whys.Memory is = tt
 
   -- ---- what is noted
@@ -93,10 +93,10 @@ module _ (d : Declaration) (files begun after : FilesTold) (input input' : Sourc
 
   -- ---- what is printed
   module _ (path : List ℕ) (declared : IsDeclaredAt files.content path d) (out out' : SinkTold) (result : Status) where
-    pub merged_printed : (ordered : List Timed) → MergesTo d (reads begun input) (reads after input') ordered → AreWritable ordered → All IsShort ordered → IsReadBack ordered → Prints (IsOnly (merged_capture ordered) statuses.Done) out out' result →
+    pub merged_printed : (ordered : List Timed) → MergesTo d (reads begun input) (reads after input') ordered → AreWritable ordered → All IsShort ordered → IsReadBack ordered → Prints (IsOnlyText (merged_capture ordered) statuses.Done) out out' result →
         Prints (MergedAt path (reads files input) (reads after input')) out out' result
     merged_printed ordered is writable short back prints =
-        prints_as (IsOnly (merged_capture ordered) statuses.Done) (MergedAt path (reads files input) (reads after input')) out out' result
+        prints_as (IsOnlyText (merged_capture ordered) statuses.Done) (MergedAt path (reads files input) (reads after input')) out out' result
         (λ status text only. inl (d, declared, inl (ordered, merges_since ordered is, writable, short, back, only))) prints
 
     pub unmerged_printed : (why : Unmerged) → MergesNot d (reads begun input) (reads after input') why → Prints (TellsUnmerged why) out out' result →

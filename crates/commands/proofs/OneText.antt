@@ -15,7 +15,7 @@ use Rattle.cert.proofs.CertReadable.{certificate_one}
 use Rattle.cert.proofs.CertReading as certificates
 use Rattle.decl.specs.Causes.{first}
 use Rattle.decl.specs.Declaration.{Declaration}
-use Rattle.decl.specs.Walk.{Declares, IsFirstFault}
+use Rattle.decl.specs.Walk.{IsDocumentOf, IsFirstFault}
 use Rattle.decl.specs.declared.errors.DeclError.{DeclError}
 use Rattle.decl.specs.declared.errors.DeclError.TheVariants as faults
 use Rattle.decl.specs.declared.errors.Section.{Section}
@@ -23,14 +23,14 @@ use Rattle.widen.specs.WideningFormat as widenings
 use Rattle.widen.proofs.Readable.{widening_one}
 use Rattle.widen.proofs.Reading as widened
 use Rattle.commands.specs.Complete.{IsExecutionText, IsCertText, IsWideningText}
-use Rattle.problem_commands.specs.Refusal.{answer_of}
+use Rattle.problem_commands.specs.Refusal.{refused_answer}
 use Rattle.problem_commands.specs.Texts.{SpellsProblem, RefusesProblem, RefusesExecution, RefusesCert}
 use Rattle.problem_commands.specs.Widening.{RefusesWidening}
 use Rattle.problem_commands.specs.declared.refusal.Refusal.{Refusal}
 use Rattle.problem_commands.specs.declared.refusal.Refusal.TheVariants as refusals
 
 -- what a text says is no refusal
-said_or_refused : {State : Type 0} (s : State) (refusal : Refusal) → Found s ≡ answer_of refusal → ⊥
+said_or_refused : {State : Type 0} (s : State) (refusal : Refusal) → Found s ≡ refused_answer refusal → ⊥
 said_or_refused s (refusals.Faulty kind line) same = absurd cc
 said_or_refused s refusals.Long same = absurd cc
 
@@ -47,29 +47,29 @@ module _ (law : HaveOneAnswer) where
   problems_one p q text x y = found_one p q (law.one text (Found p) (Found q) ((law.found text p).1 x) ((law.found text q).1 y))
 
   pub no_bad_problem : (p : ProblemLists) (text : List ℕ) (refusal : Refusal) → SpellsProblem p text → RefusesProblem text refusal → ⊥
-  no_bad_problem p text refusal is refused = said_or_refused p refusal (law.one text (Found p) (answer_of refusal) ((law.found text p).1 is) refused)
+  no_bad_problem p text refusal is refused = said_or_refused p refusal (law.one text (Found p) (refused_answer refusal) ((law.found text p).1 is) refused)
 
 pub no_bad_execution : (p : ProblemLists) (text : List ℕ) (refusal : Refusal) → IsProblem p → IsExecutionText p text → RefusesExecution p text refusal → ⊥
 no_bad_execution p text refusal lawful (readings, values, are, is) (others, are', refused) =
     let found = (executions.found_is p readings text values).0 is in
-    let same = subst (λ (rs : List Reading). Answers (execution_format p rs) text (answer_of refusal)) (readings_one p others readings are' are) refused in
-    said_or_refused values refusal (execution_one p readings text (Found values) (answer_of refusal) lawful are found same)
+    let same = subst (λ (rs : List Reading). Answers (execution_format p rs) text (refused_answer refusal)) (readings_one p others readings are' are) refused in
+    said_or_refused values refusal (execution_one p readings text (Found values) (refused_answer refusal) lawful are found same)
 
 pub no_bad_cert : (p : ProblemLists) (text : List ℕ) (refusal : Refusal) → IsProblem p → IsCertText p text → RefusesCert p text refusal → ⊥
 no_bad_cert p text refusal lawful (c, (readings, are, is)) (others, are', refused) =
     let found = (certificates.found_is p readings are c text).0 is in
-    let same = subst (λ (rs : List Reading). Answers (certificate_format p rs) text (answer_of refusal)) (readings_one p others readings are' are) refused in
-    said_or_refused (said c) refusal (certificate_one p readings text (Found (said c)) (answer_of refusal) lawful are found same)
+    let same = subst (λ (rs : List Reading). Answers (certificate_format p rs) text (refused_answer refusal)) (readings_one p others readings are' are) refused in
+    said_or_refused (said c) refusal (certificate_one p readings text (Found (said c)) (refused_answer refusal) lawful are found same)
 
 pub no_bad_widening : (p : ProblemLists) (text : List ℕ) (refusal : Refusal) → IsProblem p → IsWideningText p text → RefusesWidening p text refusal → ⊥
 no_bad_widening p text refusal lawful (w, (readings, are, is)) (others, are', refused) =
     let found = (widened.found_is p readings are w text).0 is in
-    let same = subst (λ (rs : List Reading). Answers (widenings.widening_format p rs) text (answer_of refusal)) (readings_one p others readings are' are) refused in
-    said_or_refused (widenings.said w) refusal (widening_one p readings text (Found (widenings.said w)) (answer_of refusal) lawful are found same)
+    let same = subst (λ (rs : List Reading). Answers (widenings.widening_format p rs) text (refused_answer refusal)) (readings_one p others readings are' are) refused in
+    said_or_refused (widenings.said w) refusal (widening_one p readings text (Found (widenings.said w)) (refused_answer refusal) lawful are found same)
 
 -- a declaration has no first fault
 none_or_some : (e : DeclError) → None ≡ Some e → ⊥
 none_or_some e same = absurd cc
 
-pub no_bad_decl : (bytes : List ℕ) (d : Declaration) (number : ℕ) (section : Section) (index : ℕ) → Declares bytes d → IsFirstFault bytes (faults.Fault number section index) → ⊥
+pub no_bad_decl : (bytes : List ℕ) (d : Declaration) (number : ℕ) (section : Section) (index : ℕ) → IsDocumentOf bytes d → IsFirstFault bytes (faults.Fault number section index) → ⊥
 no_bad_decl bytes d number section index is fault = none_or_some (faults.Fault number section index) (sym (ap first is.0) ∙ fault)

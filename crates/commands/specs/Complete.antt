@@ -9,7 +9,7 @@ use Rattle.problem.specs.Line.{HasEvent}
 use Rattle.cert.specs.declared.certificate.Cert.{Cert}
 use Rattle.cert.specs.ReadsExecution.{IsTextOf}
 use Rattle.decl.specs.Declaration.{Declaration}
-use Rattle.decl.specs.Walk.{Declares}
+use Rattle.decl.specs.Walk.{IsDocumentOf}
 use Rattle.widen.specs.declared.widening.Widening.{Widening}
 use Rattle.session.specs.Script.{Devices}
 use Rattle.commands.specs.Asked.{Asked}
@@ -43,24 +43,24 @@ IsWideningText p text = (w : Widening) × SpellsWidening p w text
 
 -- the file at the path declares something, and the script is not too long
 abbrev pub HasScript : Content → List ℕ → Option (List ℕ) → Type 0
-HasScript files decl script = ((d : Declaration) × Holds files decl (λ bytes. Declares bytes d)) × IsSomeAnd script (λ bytes. length bytes ≤ most_taken)
+HasScript files decl script = ((d : Declaration) × Holds files decl (λ bytes. IsDocumentOf bytes d)) × IsSomeAnd script (λ bytes. length bytes ≤ most_taken)
 
 -- ---- the run
 -- something that there is was asked for; no file that is named is absent or refused, and events by name are ones of the problem; a
 -- script is not too long
-abbrev pub IsLawful : Asked → Content → Option (List ℕ) → Type 0
-IsLawful (Obey problem exec) files script = HoldsProblem files problem (λ p. Holds files exec (IsExecutionText p))
-IsLawful (Solve problem) files script = HoldsProblem files problem (λ p. Unit {0})
-IsLawful (Ends problem first second) files script = HoldsProblem files problem (λ p. ((from : ℕ) × HasEvent p from first) × ((to : ℕ) × HasEvent p to second))
-IsLawful (Verify problem cert) files script = HoldsProblem files problem (λ p. Holds files cert (IsCertText p))
-IsLawful (Session decl) files script = HasScript files decl script
-IsLawful (Trial number) files script = (n : ℕ) × IsNumber n number
-IsLawful (Widen problem) files script = HoldsProblem files problem (λ p. Unit {0})
-IsLawful (Judge problem widening) files script = HoldsProblem files problem (λ p. Holds files widening (IsWideningText p))
-IsLawful (Mergecap decl) files script = HasScript files decl script
-IsLawful Help files script = Unit {0}
-IsLawful Version files script = Unit {0}
-IsLawful Nothing files script = ⊥
+abbrev pub IsLawfulInput : Asked → Content → Option (List ℕ) → Type 0
+IsLawfulInput (Obey problem exec) files script = HoldsProblem files problem (λ p. Holds files exec (IsExecutionText p))
+IsLawfulInput (Solve problem) files script = HoldsProblem files problem (λ p. Unit {0})
+IsLawfulInput (Ends problem first second) files script = HoldsProblem files problem (λ p. ((from : ℕ) × HasEvent p from first) × ((to : ℕ) × HasEvent p to second))
+IsLawfulInput (Verify problem cert) files script = HoldsProblem files problem (λ p. Holds files cert (IsCertText p))
+IsLawfulInput (Session decl) files script = HasScript files decl script
+IsLawfulInput (Trial number) files script = (n : ℕ) × IsNumber n number
+IsLawfulInput (Widen problem) files script = HoldsProblem files problem (λ p. Unit {0})
+IsLawfulInput (Judge problem widening) files script = HoldsProblem files problem (λ p. Holds files widening (IsWideningText p))
+IsLawfulInput (Mergecap decl) files script = HasScript files decl script
+IsLawfulInput Help files script = Unit {0}
+IsLawfulInput Version files script = Unit {0}
+IsLawfulInput Nothing files script = ⊥
 
 -- no count of faults rose, of files, input and output
 pub record IsFaultless (old new : Devices) : Type 0 where

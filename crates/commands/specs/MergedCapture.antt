@@ -9,7 +9,7 @@ use Rattle.merge_script.specs.declared.unmerged.Unmerged.{Unmerged}
 use Rattle.merge_script.specs.declared.unmerged.Unmerged.TheVariants as causes
 use Rattle.merge_script.specs.Merged.{MergesTo, MergesNot}
 use Rattle.merge_script.specs.Notes.{AreNoted}
-use Rattle.problem_commands.specs.Printing.{IsOnly}
+use Rattle.problem_commands.specs.Printing.{IsOnlyText}
 use Rattle.commands.specs.Sessions.{IsDeclaredAt, IsUndeclared, TellsUndeclared}
 use Rattle.commands.specs.declared.declaration.Undeclared.{Undeclared}
 use Rattle.problem_commands.specs.declared.status.Status.{Status}
@@ -17,20 +17,20 @@ use Rattle.problem_commands.specs.declared.status.Status.TheVariants.{Done, Read
 
 -- what is printed where packets are not merged, and with which status
 abbrev pub TellsUnmerged : Unmerged → Status → List ℕ → Type 0
-TellsUnmerged (causes.Refused said) = IsOnly (said.items ++ 10 ∷ []) NoMerge
-TellsUnmerged causes.Size = IsOnly (codes "size\n") NoMerge
-TellsUnmerged causes.Inconsistent = IsOnly (codes "inconsistent\n") NoMerge
-TellsUnmerged causes.Links = IsOnly (codes "links\n") NoMerge
-TellsUnmerged causes.Range = IsOnly (codes "range\n") NoMerge
-TellsUnmerged causes.ReadFault = IsOnly (codes "read fault\n") ReadFault
-TellsUnmerged causes.Limit = IsOnly (codes "script limit\n") ScriptLimit
+TellsUnmerged (causes.Refused said) = IsOnlyText (said.items ++ 10 ∷ []) NoMerge
+TellsUnmerged causes.Size = IsOnlyText (codes "size\n") NoMerge
+TellsUnmerged causes.Inconsistent = IsOnlyText (codes "inconsistent\n") NoMerge
+TellsUnmerged causes.Links = IsOnlyText (codes "links\n") NoMerge
+TellsUnmerged causes.Range = IsOnlyText (codes "range\n") NoMerge
+TellsUnmerged causes.ReadFault = IsOnlyText (codes "read fault\n") ReadFault
+TellsUnmerged causes.Limit = IsOnlyText (codes "script limit\n") ScriptLimit
 TellsUnmerged causes.Memory = λ status text. ⊥
 
 -- the capture of the merge of all packets of the script, which can stand in one and are read from it again, or a line that says why
 -- there is none
 abbrev pub MergedOver : Declaration → Devices → Devices → Status → List ℕ → Type 0
 MergedOver d old new status text = ((ordered : List Timed) × MergesTo d old new ordered × AreWritable ordered × All IsShort ordered × IsReadBack ordered
-    × IsOnly (merged_capture ordered) Done status text)
+    × IsOnlyText (merged_capture ordered) Done status text)
     ⊎ ((why : Unmerged) × MergesNot d old new why × TellsUnmerged why status text)
 
 -- the same over the declaration at the path; where there is none, a line says so, and nothing of the script was read

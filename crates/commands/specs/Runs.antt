@@ -17,7 +17,7 @@ use Rattle.commands.specs.Asked.{Asked, asked_of, ReadsNoFile, ReadsNoScript, us
 use Rattle.commands.specs.Asked.Asked.{Obey, Solve, Ends, Verify, Session, Trial, Widen, Judge, Mergecap, Help, Version, Nothing}
 use Rattle.commands.specs.Sessions.{Conducted}
 use Rattle.commands.specs.Trials.{TriedBy}
-use Rattle.commands.specs.Complete.{IsLawful, IsFaultless, IsAnswered}
+use Rattle.commands.specs.Complete.{IsLawfulInput, IsFaultless, IsAnswered}
 use Rattle.commands.specs.MergedCapture.{MergedAt, NotedAt}
 
 -- what a run that was asked for this prints, and with which status, over these devices before and after
@@ -47,7 +47,7 @@ pub record RunsSo (ws : List (List ℕ)) (old new : Devices) (before after : Sin
   pub files : Keeps old.files new.files
   pub unread : ReadsNoFile (asked_of ws) → new.files ≡ old.files
   pub input : ReadsNoScript (asked_of ws) → new.input ≡ old.input
-  pub complete : IsLawful (asked_of ws) old.files.content old.input.left → IsFaultless old new → IsAnswered result
+  pub complete : IsLawfulInput (asked_of ws) old.files.content old.input.left → IsFaultless old new → IsAnswered result
 
 -- a front of the bytes that were told stands written, where they were told
 abbrev pub HasSome : Option (List ℕ) → Option (List ℕ) → Type 0

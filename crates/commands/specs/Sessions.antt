@@ -8,11 +8,11 @@ use Rattle.decl.specs.declared.errors.DeclError.TheVariants as faults
 use Rattle.decl.specs.declared.errors.Section.{Section}
 use Rattle.decl.specs.declared.errors.Section.TheVariants.{Top, Hosts, Labels, Links}
 use Rattle.decl.specs.Declaration.{Declaration}
-use Rattle.decl.specs.Walk.{Declares, IsFirstFault}
+use Rattle.decl.specs.Walk.{IsDocumentOf, IsFirstFault}
 use Rattle.session.specs.Script.{Devices, OfScript, IsDone, IsScriptFault, IsTooLong, IsCutOff, IsInterrupted}
 use Rattle.session.specs.declared.ended.Ended.{Ended}
 use Rattle.session.specs.declared.ended.Ended.TheVariants as ended
-use Rattle.problem_commands.specs.Printing.{Closes, IsOnly}
+use Rattle.problem_commands.specs.Printing.{Closes, IsOnlyText}
 use Rattle.problem_commands.specs.Texts.{IsMissed}
 use Rattle.commands.specs.declared.declaration.Undeclared.{Undeclared}
 use Rattle.commands.specs.declared.declaration.Undeclared.TheVariants as causes
@@ -33,7 +33,7 @@ declaration_line number section index = line_of (codes "declaration" ∷ decimal
 
 -- the file at the path declares this
 abbrev pub IsDeclaredAt : Content → List ℕ → Declaration → Type 0
-IsDeclaredAt files path d = HasBytes files path (λ bytes. Declares bytes d)
+IsDeclaredAt files path d = HasBytes files path (λ bytes. IsDocumentOf bytes d)
 
 -- this is the first fault of the file at the path
 abbrev pub IsFaultAt : Content → List ℕ → ℕ → Section → ℕ → Type 0
@@ -47,8 +47,8 @@ IsUndeclared path old new causes.Memory = Unit {0}
 
 -- what is printed where there is no declaration, and with which status
 abbrev pub TellsUndeclared : Undeclared → Status → List ℕ → Type 0
-TellsUndeclared (causes.Faulty number section index) = IsOnly (declaration_line number section index) BadDecl
-TellsUndeclared causes.Unread = IsOnly (codes "read fault\n") ReadFault
+TellsUndeclared (causes.Faulty number section index) = IsOnlyText (declaration_line number section index) BadDecl
+TellsUndeclared causes.Unread = IsOnlyText (codes "read fault\n") ReadFault
 TellsUndeclared causes.Memory = λ status text. ⊥
 
 -- ---- session

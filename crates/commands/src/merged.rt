@@ -7,7 +7,7 @@ ghost use Rattle.mergecap.specs.Packets.{all_timed};
 ghost use Rattle.mergecap.specs.Reading.{IsReadBack};
 ghost use Rattle.merge_script.specs.Turns.{reads};
 ghost use Rattle.commands.specs.MergedCapture.{MergedAt, NotedAt, TellsUnmerged};
-ghost use Rattle.problem_commands.specs.Printing.{Closes, IsOnly, Prints};
+ghost use Rattle.problem_commands.specs.Printing.{Closes, IsOnlyText, Prints};
 ghost use Rattle.problem_commands.specs.declared.status.Status.TheVariants as statuses;
 
 use crate::declaration::decl_in;
@@ -59,7 +59,7 @@ fn tell<O: Sink>(why: Unmerged, out: &mut O) -> Status
 fn print<O: Sink>(ordered: &[Stored], out: &mut O) -> Status
     requires writable { AreWritable (all_timed ordered.now) }
     requires short { All IsShort (all_timed ordered.now) }
-    ensures prints { Prints (IsOnly (merged_capture (all_timed ordered.now)) statuses.Done) (O.told out.old) (O.told out.new) result }
+    ensures prints { Prints (IsOnlyText (merged_capture (all_timed ordered.now)) statuses.Done) (O.told out.old) (O.told out.new) result }
     ensures only { (result ≡ statuses.Done) ⊎ (result ≡ statuses.WriteFault) }
     ensures read_back { IsReadBack (all_timed ordered.now) }
 {

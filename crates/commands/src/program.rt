@@ -4,7 +4,7 @@ ghost use Rattle.ports.specs.Files.{Keeps};
 ghost use Rattle.session.specs.Script.{devices};
 ghost use Rattle.commands.specs.Asked.{asked_of, seen_request, ReadsNoFile, ReadsNoScript};
 ghost use Rattle.commands.specs.Runs.{Answers, Notes};
-ghost use Rattle.commands.specs.Complete.{IsLawful, IsFaultless, IsAnswered};
+ghost use Rattle.commands.specs.Complete.{IsLawfulInput, IsFaultless, IsAnswered};
 
 use crate::help::{help, usage, version};
 use crate::merged::mergecap;
@@ -109,7 +109,7 @@ pub fn run<F: Files, I: Source, O: Sink, N: Sink>(
     ensures unread { ReadsNoFile (asked_of words.now) → F.told files.new ≡ F.told files.old }
     ensures input { ReadsNoScript (asked_of words.now) → I.told input.new ≡ I.told input.old }
     ensures complete { let old = devices (F.told files.old) (I.told input.old) (O.told out.old) in let new = devices (F.told files.new) (I.told input.new) (O.told out.new) in
-        IsLawful (asked_of words.now) old.files.content old.input.left → IsFaultless old new → IsAnswered result }
+        IsLawfulInput (asked_of words.now) old.files.content old.input.left → IsFaultless old new → IsAnswered result }
 {
     problem_answers_are_one();
     let request = request_of(words);

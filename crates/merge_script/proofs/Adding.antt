@@ -29,8 +29,8 @@ use Rattle.session.proofs.Places.{IsPlace, of_script, of_told, place_more, withi
 use Rattle.session.proofs.Endings.{none_left, lines_done, few, open_place, cut_at, length_taken, one_more, past}
 use Rattle.merge_script.specs.declared.unmerged.Unmerged.{Unmerged}
 use Rattle.merge_script.specs.declared.unmerged.Unmerged.TheVariants as ends
-use Rattle.merge_script.specs.Gathered.{AreAllOf, MergeReply, AreAdded, AddsAll, IsLastBy, StopsAt, TakesPart, IsTooLong, AddsScript, bytes_in, most_bytes}
-use Rattle.merge_script.specs.Turns.{AreKeptFor, AddsLine, EndsLine, EndsOrLacks, TakesLine, TakesLast, EndsSo, GathersAll, GathersNone}
+use Rattle.merge_script.specs.Gathered.{AreAllOf, MergeReply, AreAdded, AddsAll, IsLastBy, StopsAt, TakesPart, IsScriptTooLong, AddsScript, bytes_in, most_bytes}
+use Rattle.merge_script.specs.Turns.{AreKeptFor, AddsLine, EndsRunAt, EndsOrLacks, TakesLine, TakesLast, EndsRunSo, GathersAll, GathersNone}
 use Rattle.merge_script.proofs.AllPackets.{all_first, all_then, same_bytes}
 
 -- the lines that are done are added, and the session then has this
@@ -161,7 +161,7 @@ fault_at d old now now' r r' script s here turn keeps =
       adds = adds_all d old now now' r script s (whole_lines front) here (whole_broken here.done (r.held ++ turn.bytes) place.1 turn.breaks.part) keeps;
     }
 
-limit_at : (d : Declaration) (old now now' : Devices) (r r' : Reader) (script : List ℕ) (s : State) → IsAdding d old now r script s → IsPastMost r r' now now' → Keeps now.files now'.files → IsTooLong d old now' script
+limit_at : (d : Declaration) (old now now' : Devices) (r r' : Reader) (script : List ℕ) (s : State) → IsAdding d old now r script s → IsPastMost r r' now now' → Keeps now.files now'.files → IsScriptTooLong d old now' script
 limit_at d old now now' r r' script s here turn keeps =
     let came = came_off now.input now'.input here.left turn.bytes here.left_is turn.came in
     let goes = turn.goes in
@@ -186,7 +186,7 @@ module _ (d : Declaration) (old now now' : Devices) (held : Held) (kept : List T
       of_script old.input.left (λ script. IsAdding d old now r script x.state) (StopsAt d old now' why)
       (λ script is. stops_at d old now now' r r' script x.state is same keeps turn.off e.found e.text e.then reply e.counted why e.last) here
 
-  pub ends_so : (why : Unmerged) → EndsSo held r r' now now' kept why → GathersNone d old now' why
+  pub ends_so : (why : Unmerged) → EndsRunSo held r r' now now' kept why → GathersNone d old now' why
   ends_so (ends.Refused said) turn = last_at (ends.Refused said) turn
   ends_so ends.Size turn = last_at ends.Size turn
   ends_so ends.Inconsistent turn = absurd turn
@@ -195,7 +195,7 @@ module _ (d : Declaration) (old now now' : Devices) (held : Held) (kept : List T
   ends_so ends.ReadFault turn =
       (rose_later _ _ _ r_le turn.rose, of_script old.input.left (λ script. IsAdding d old now r script x.state) (TakesPart d old now') (λ script is. fault_at d old now now' r r' script x.state is turn keeps) here)
   ends_so ends.Limit turn =
-      of_script old.input.left (λ script. IsAdding d old now r script x.state) (IsTooLong d old now') (λ script is. limit_at d old now now' r r' script x.state is turn keeps) here
+      of_script old.input.left (λ script. IsAdding d old now r script x.state) (IsScriptTooLong d old now') (λ script is. limit_at d old now now' r r' script x.state is turn keeps) here
   ends_so ends.Memory turn = tt
 
 -- ---- what a line adds
@@ -231,7 +231,7 @@ module _ (line : List ℕ) (files files' : FilesTold) (h h' : Held) (kept kept' 
       }
 
   -- too many bytes then
-  pub ends_size : Takes line files files' h h' kept kept' answers.Accepted → most_bytes < bytes_in kept' → (x : AreKeptFor h kept) → EndsLine line files files' h x.state ends.Size
+  pub ends_size : Takes line files files' h h' kept kept' answers.Accepted → most_bytes < bytes_in kept' → (x : AreKeptFor h kept) → EndsRunAt line files files' h x.state ends.Size
   ends_size takes over x =
       let a = adds_line takes x in
       let same = same_bytes a.then.state.traces kept' a.then.all in
@@ -240,7 +240,7 @@ module _ (line : List ℕ) (files files' : FilesTold) (h h' : Held) (kept kept' 
 
   -- the line is refused
   pub ends_refused : (why : Unmerged) (answer : AddAnswer) → ((text : List ℕ) (old new : Traces) (packets : List Timed) (then : State) → IsAnswerOf old new text packets answer → IsLastBy why text then) → Takes line files files' h h' kept kept' answer →
-      (x : AreKeptFor h kept) → EndsLine line files files' h x.state why
+      (x : AreKeptFor h kept) → EndsRunAt line files files' h x.state why
   ends_refused why answer turn takes x =
       let t = takes h.declaration x.state x.stands in
       record {
@@ -253,7 +253,7 @@ module _ (line : List ℕ) (files files' : FilesTold) (h h' : Held) (kept kept' 
       }
 
 -- a line that is too long is refused
-pub ends_long : (line : List ℕ) (files : FilesTold) (h : Held) (s : State) (why : Unmerged) → 4096 < length line → IsLastBy why (refusal_line NoCommand) s → EndsLine line files files h s why
+pub ends_long : (line : List ℕ) (files : FilesTold) (h : Held) (s : State) (why : Unmerged) → 4096 < length line → IsLastBy why (refusal_line NoCommand) s → EndsRunAt line files files h s why
 ends_long line files h s why long last = record {
   found = Unread;
   text = refusal_line NoCommand;
@@ -297,8 +297,8 @@ module _ (old new : List Stored) (packets : List Timed) (are : all_timed new ≡
       ap bytes_in are ∙ sum_by-append (λ (t : Timed). length t.packet.bytes) (all_timed old) packets ∙ ap (λ (ts : List Timed). bytes_in (all_timed old) + bytes_in ts) (sym newest_are)
 
 -- ---- why a turn ends the run
-pub ends_turn : (h : Held) (r r' : Reader) (old new : Devices) (kept : List Timed) (why : Unmerged) (off : TakesOff r r' old new) → AreKeptFor h kept → EndsOrLacks off.line old.files new.files h kept why → EndsSo h r r' old new kept why
-ends_turn h r r' old new kept why off x (inl lacks) = subst (λ (w : Unmerged). EndsSo h r r' old new kept w) (sym lacks) tt
+pub ends_turn : (h : Held) (r r' : Reader) (old new : Devices) (kept : List Timed) (why : Unmerged) (off : TakesOff r r' old new) → AreKeptFor h kept → EndsOrLacks off.line old.files new.files h kept why → EndsRunSo h r r' old new kept why
+ends_turn h r r' old new kept why off x (inl lacks) = subst (λ (w : Unmerged). EndsRunSo h r r' old new kept w) (sym lacks) tt
 ends_turn h r r' old new kept (ends.Refused said) off x (inr last) = record { off = off; ends = last }
 ends_turn h r r' old new kept ends.Size off x (inr last) = record { off = off; ends = last }
 ends_turn h r r' old new kept ends.Inconsistent off x (inr last) = absurd ((last x).last)
@@ -346,5 +346,5 @@ module _ (d : Declaration) (old now now' : Devices) (r r' : Reader) (h h' : Held
   gathers_all turn same_h same_kept =
       subst (λ (y : Held). GathersAll d old now' y kept') (sym same_h) (subst (λ (ts : List Timed). GathersAll d old now' h ts) (sym same_kept) (gathers_here turn))
 
-  pub gathers_none : now.files.content ≡ old.files.content → old.input.faults ≤ now.input.faults → (why : Unmerged) → EndsSo h r r' now now' kept why → GathersNone d old now' why
+  pub gathers_none : now.files.content ≡ old.files.content → old.input.faults ≤ now.input.faults → (why : Unmerged) → EndsRunSo h r r' now now' kept why → GathersNone d old now' why
   gathers_none same r_le why turn = ends_so d old now now' h kept r r' before.0 before.1 before.2 same keeps r_le why turn

@@ -7,14 +7,16 @@ use Rattle.std.proofs.lemmas.List.Elements.{All-from_recursion}
 use Rattle.std.proofs.lemmas.List.Kept.{AllPairs-cons}
 use Rattle.std.proofs.lemmas.List.Sorted.{IsPermutation-refl, IsPermutation-trans, IsPermutation-map, IsPermutation-append_comm, IsPermutation-append_left, IsPermutation-append_right, sum_by-IsPermutation}
 use Rattle.std.proofs.lemmas.Map.Views.{All-map-IsPermutation}
+use Rattle.packets.proofs.Bounds.{AreShort}
 use Rattle.captures.specs.Capture as captures
+use Rattle.captures.proofs.Bounds.{packets_short}
 use Rattle.decl.specs.declared.items.Label.{Label}
 use Rattle.decl.specs.declared.items.TraceKind.{TraceKind}
 use Rattle.decl.specs.declared.items.TraceKind.TheVariants.{Capture, Log}
 use Rattle.decl.specs.Declaration.{Declaration}
 use Rattle.report.specs.declared.merge.MergeKey.{MergeKey}
 use Rattle.report.specs.Merging.{AreApart}
-use Rattle.mergecap.specs.MergedCapture.{Timed, IsShort, keys_of}
+use Rattle.mergecap.specs.MergedCapture.{Timed, IsShort, merge_keys}
 use Rattle.mergecap.proofs.Orders.{apart_still}
 use Rattle.traces.specs.Seen.{Seen, event_of_packet}
 use Rattle.traces.specs.Traces.{Trace, Captured, Logged, Traces, IsOfKind, nothing_for, seen_of, seen_under, seen_by}
@@ -22,7 +24,6 @@ use Rattle.traces.proofs.Members.{no_pairs, pairs_joined}
 use Rattle.session.specs.Settled.{HasEventOf}
 use Rattle.session.specs.Taken.{packets_from, packets_under, packets_behind, BringsPackets}
 use Rattle.merge_script.specs.Gathered.{AreAllOf, bytes_in}
-use Rattle.merge_script.proofs.ShortPackets.{AreShort, packets_short}
 
 some_same : {A : Type 0} (x y : A) → Some x ≡ Some y → x ≡ y
 some_same x y e = cc
@@ -107,20 +108,20 @@ each_from place n (p ∷ ps) = (
 abbrev DifferBy : MergeKey → MergeKey → Type 0
 DifferBy a b = (a.place ≡ b.place) → (a.n ≡ b.n) → ⊥
 
-keys_all : (P : MergeKey → Type 0) (ts : List Timed) → AllByRecursion (λ (t : Timed). P t.key) ts → AllByRecursion P (keys_of ts)
+keys_all : (P : MergeKey → Type 0) (ts : List Timed) → AllByRecursion (λ (t : Timed). P t.key) ts → AllByRecursion P (merge_keys ts)
 keys_all P [] all = tt
 keys_all P (t ∷ ts) all = (all.0, keys_all P ts all.1)
 
-apart_from : (place n : ℕ) (ps : List captures.Seen) → AreApart (keys_of (packets_from place n ps))
+apart_from : (place n : ℕ) (ps : List captures.Seen) → AreApart (merge_keys (packets_from place n ps))
 apart_from place n [] = no_pairs DifferBy
 apart_from place n (p ∷ ps) =
     let key : MergeKey = record { value = pos 0; place = place; n = n } in
     let later = weaker (IsUnderFrom place (n + 1) (length ps)) (λ (t : Timed). DifferBy key t.key) (packets_from place (n + 1) ps)
     (λ t (i, same, number, few) places numbers. omega (arith, number, numbers)) (each_from place (n + 1) ps) in
-    AllPairs-cons DifferBy key (keys_of (packets_from place (n + 1) ps)) (All-from_recursion (DifferBy key) (keys_of (packets_from place (n + 1) ps)) (keys_all (DifferBy key) (packets_from place (n + 1) ps) later))
+    AllPairs-cons DifferBy key (merge_keys (packets_from place (n + 1) ps)) (All-from_recursion (DifferBy key) (merge_keys (packets_from place (n + 1) ps)) (keys_all (DifferBy key) (packets_from place (n + 1) ps) later))
     (apart_from place (n + 1) ps)
 
-apart_under : (p : ℕ) (t : Trace) → AreApart (keys_of (packets_under p t))
+apart_under : (p : ℕ) (t : Trace) → AreApart (merge_keys (packets_under p t))
 apart_under p (Captured bytes capture) = apart_from p 1 capture.packets
 apart_under p (Logged rows size) = no_pairs DifferBy
 
@@ -136,22 +137,22 @@ behind_from p (t ∷ ts) =
     (weaker (λ (x : Timed). x.key.place ≡ p) (λ (x : Timed). p ≤ x.key.place) (packets_under p t) (λ x same. omega (arith, same)) (here_under p t))
     (weaker (λ (x : Timed). p + 1 ≤ x.key.place) (λ (x : Timed). p ≤ x.key.place) (packets_behind (p + 1) ts) (λ x far. omega (arith, far)) (behind_from (p + 1) ts))
 
-apart_behind : (p : ℕ) (ts : Traces) → AreApart (keys_of (packets_behind p ts))
+apart_behind : (p : ℕ) (ts : Traces) → AreApart (merge_keys (packets_behind p ts))
 apart_behind p [] = no_pairs DifferBy
 apart_behind p (t ∷ ts) =
     let own = packets_under p t in
     let rest = packets_behind (p + 1) ts in
-    let later : AllByRecursion (λ (b : MergeKey). p + 1 ≤ b.place) (keys_of rest) = keys_all (λ (b : MergeKey). p + 1 ≤ b.place) rest (behind_from (p + 1) ts) in
-    let cross : AllByRecursion (λ (a : MergeKey). All (DifferBy a) (keys_of rest)) (keys_of own) =
-    keys_all (λ (a : MergeKey). All (DifferBy a) (keys_of rest)) own
-    (weaker (λ (x : Timed). x.key.place ≡ p) (λ (x : Timed). All (DifferBy x.key) (keys_of rest)) own
-    (λ x same. All-from_recursion (DifferBy x.key) (keys_of rest) (weaker (λ (b : MergeKey). p + 1 ≤ b.place) (DifferBy x.key) (keys_of rest) (λ b far places numbers. omega (arith, same, far, places)) later))
+    let later : AllByRecursion (λ (b : MergeKey). p + 1 ≤ b.place) (merge_keys rest) = keys_all (λ (b : MergeKey). p + 1 ≤ b.place) rest (behind_from (p + 1) ts) in
+    let cross : AllByRecursion (λ (a : MergeKey). All (DifferBy a) (merge_keys rest)) (merge_keys own) =
+    keys_all (λ (a : MergeKey). All (DifferBy a) (merge_keys rest)) own
+    (weaker (λ (x : Timed). x.key.place ≡ p) (λ (x : Timed). All (DifferBy x.key) (merge_keys rest)) own
+    (λ x same. All-from_recursion (DifferBy x.key) (merge_keys rest) (weaker (λ (b : MergeKey). p + 1 ≤ b.place) (DifferBy x.key) (merge_keys rest) (λ b far places numbers. omega (arith, same, far, places)) later))
     (here_under p t)) in
     subst (λ (keys : List MergeKey). AreApart keys) (sym (map-append (λ (x : Timed). x.key) own rest))
-    (pairs_joined DifferBy (keys_of own) (keys_of rest) (apart_under p t) (apart_behind (p + 1) ts) (All-from_recursion (λ (a : MergeKey). All (DifferBy a) (keys_of rest)) (keys_of own) cross))
+    (pairs_joined DifferBy (merge_keys own) (merge_keys rest) (apart_under p t) (apart_behind (p + 1) ts) (All-from_recursion (λ (a : MergeKey). All (DifferBy a) (merge_keys rest)) (merge_keys own) cross))
 
-pub all_apart : (traces : Traces) (kept : List Timed) → AreAllOf traces kept → AreApart (keys_of kept)
-all_apart traces kept all = apart_still (keys_of (packets_behind 0 traces)) (keys_of kept) (IsPermutation-map (λ (t : Timed). t.key) (packets_behind 0 traces) kept all) (apart_behind 0 traces)
+pub all_apart : (traces : Traces) (kept : List Timed) → AreAllOf traces kept → AreApart (merge_keys kept)
+all_apart traces kept all = apart_still (merge_keys (packets_behind 0 traces)) (merge_keys kept) (IsPermutation-map (λ (t : Timed). t.key) (packets_behind 0 traces) kept all) (apart_behind 0 traces)
 
 -- ---- each is of an event
 abbrev HasEventFrom : ℕ → List (List Seen) → Timed → Type 0

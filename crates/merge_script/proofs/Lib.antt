@@ -1,4 +1,3 @@
-mod ShortPackets
 mod AllPackets
 mod Adding
 mod Merges

@@ -13,7 +13,7 @@ use Rattle.mergecap.specs.declared.errors.ArrangeError.{ArrangeError}
 use Rattle.mergecap.specs.declared.errors.ArrangeError.TheVariants as errors
 use Rattle.mergecap.specs.declared.stored.Stored.{Stored}
 use Rattle.mergecap.specs.Packets.{timed, all_timed}
-use Rattle.mergecap.specs.MergedCapture.{Timed, IsArranged, IsShort, IsFault, HasOneLink, HasTwoLinks, keys_of}
+use Rattle.mergecap.specs.MergedCapture.{Timed, IsArranged, IsShort, IsFault, HasOneLink, HasTwoLinks, merge_keys}
 use Rattle.traces.specs.Seen.{Seen}
 use Rattle.traces.specs.Messages.{problem_of_seen}
 use Rattle.traces.proofs.Members.{here, there, head_or_tail, none_in}
@@ -30,7 +30,7 @@ module _ (h : Held) (kept : List Timed) (x : AreKeptFor h kept) where
   pub kept_events : All (HasEventOf (seen_held h.under)) kept
   kept_events = subst (λ (seen : List (List Seen)). All (HasEventOf seen) kept) (sym x.stands.events) (all_events h.declaration x.state.traces kept x.stands.labels x.all)
 
-  pub kept_apart : AreApart (keys_of kept)
+  pub kept_apart : AreApart (merge_keys kept)
   kept_apart = all_apart x.state.traces kept x.all
 
   pub kept_short : All IsShort kept
@@ -38,20 +38,20 @@ module _ (h : Held) (kept : List Timed) (x : AreKeptFor h kept) where
 
 -- ---- at their times
 module _ (seen : List (List Seen)) (times : Times) where
-  place_same : (ts : List Timed) (i : ℕ) (d : MergeKey) → (get_or (keys_of (map (settled seen times) ts)) i d).place ≡ (get_or (keys_of ts) i d).place
+  place_same : (ts : List Timed) (i : ℕ) (d : MergeKey) → (get_or (merge_keys (map (settled seen times) ts)) i d).place ≡ (get_or (merge_keys ts) i d).place
   place_same [] i d = refl
   place_same (t ∷ ts) zero d = refl
   place_same (t ∷ ts) (suc i) d = place_same ts i d
 
-  number_same : (ts : List Timed) (i : ℕ) (d : MergeKey) → (get_or (keys_of (map (settled seen times) ts)) i d).n ≡ (get_or (keys_of ts) i d).n
+  number_same : (ts : List Timed) (i : ℕ) (d : MergeKey) → (get_or (merge_keys (map (settled seen times) ts)) i d).n ≡ (get_or (merge_keys ts) i d).n
   number_same [] i d = refl
   number_same (t ∷ ts) zero d = refl
   number_same (t ∷ ts) (suc i) d = number_same ts i d
 
-  keys_long : (ts : List Timed) → length (keys_of (map (settled seen times) ts)) ≡ length (keys_of ts)
+  keys_long : (ts : List Timed) → length (merge_keys (map (settled seen times) ts)) ≡ length (merge_keys ts)
   keys_long ts = length-map (map (settled seen times) ts) (λ (t : Timed). t.key) ∙ length-map ts (settled seen times) ∙ sym (length-map ts (λ (t : Timed). t.key))
 
-  pub settled_apart : (ts : List Timed) → AreApart (keys_of ts) → AreApart (keys_of (map (settled seen times) ts))
+  pub settled_apart : (ts : List Timed) → AreApart (merge_keys ts) → AreApart (merge_keys (map (settled seen times) ts))
   settled_apart ts apart i j d below inside = λ places numbers.
       apart i j d below (let long = keys_long ts in omega (arith, inside, long))
       (sym (place_same ts i d) ∙ places ∙ place_same ts j d) (sym (number_same ts i d) ∙ numbers ∙ number_same ts j d)
@@ -99,8 +99,8 @@ module _ (d : Declaration) (seen : List (List Seen)) (all new : List Timed) (at_
   pub lacks_so : (why : Unmerged) → IsUnarranged new why → LacksMerge d seen all why
   lacks_so why (e, fault, is) = subst (LacksMerge d seen all) (sym is) (lacks_merge e fault)
 
-  pub apart_then : AreApart (keys_of all) → AreApart (keys_of new)
-  apart_then apart = subst (λ (ts : List Timed). AreApart (keys_of ts)) (sym at_times.are) (settled_apart seen at_times.times all apart)
+  pub apart_then : AreApart (merge_keys all) → AreApart (merge_keys new)
+  apart_then apart = subst (λ (ts : List Timed). AreApart (merge_keys ts)) (sym at_times.are) (settled_apart seen at_times.times all apart)
 
   pub short_then : (ordered : List Timed) → All IsShort all → IsArranged new ordered → All IsShort ordered
   short_then ordered small arranged = settled_short seen at_times.times all ordered small (subst (λ (ts : List Timed). IsPermutation ts ordered) at_times.are arranged.same)
@@ -145,9 +145,9 @@ module _ (h : Held) (old lent new : List Stored) (n : ℕ) (so : IsConsistent (p
   pub given_back : take n (new ++ drop (length new) old) ≡ new
   given_back = whole_lent old new n count (settled_long h.declaration (seen_held h.under) old new settles_all)
 
-  pub given_apart : AreKeptFor h (all_timed old) → AreApart (keys_of (all_timed (take n (new ++ drop (length new) old))))
+  pub given_apart : AreKeptFor h (all_timed old) → AreApart (merge_keys (all_timed (take n (new ++ drop (length new) old))))
   given_apart x =
-      subst (λ (xs : List Stored). AreApart (keys_of (all_timed xs))) (sym given_back) (apart_then h.declaration (seen_held h.under) (all_timed old) (all_timed new) settles_all so (kept_apart h (all_timed old) x))
+      subst (λ (xs : List Stored). AreApart (merge_keys (all_timed xs))) (sym given_back) (apart_then h.declaration (seen_held h.under) (all_timed old) (all_timed new) settles_all so (kept_apart h (all_timed old) x))
 
   pub given_short : AreKeptFor h (all_timed old) → (ordered : List Timed) → IsArranged (all_timed (take n (new ++ drop (length new) old))) ordered → All IsShort ordered
   given_short x ordered arranged =

@@ -16,14 +16,14 @@ use Rattle.mergecap.specs.MergedCapture.{Timed}
 use Rattle.traces.specs.declared.accepted.Accepted.{Accepted}
 use Rattle.traces.specs.declared.accepted.Stream.{Stream}
 use Rattle.traces.specs.declared.accepted.Stream.TheVariants as streams
-use Rattle.traces.specs.Traces.{Trace, Captured, Logged, Traces, size_of}
+use Rattle.traces.specs.Traces.{Trace, Captured, Logged, Traces, bytes_accepted}
 use Rattle.replies.specs.Reply.{State}
 use Rattle.session.specs.Stands.{Held, StandsFor, Under, IsStreamOf, under_of}
 use Rattle.session.specs.Script.{Devices}
 use Rattle.session.proofs.Places.{of_script}
 use Rattle.merge_script.specs.Gathered.{AddsScript}
 use Rattle.merge_script.specs.Turns.{GathersAll}
-use Rattle.merge_script.specs.Notes.{AreNoted, IsTold, NotesAdded, capture_notes, is_nothing, notes_held, notes_kept, notes_on, notes_text, notes_under, passed_line, passed_note, pending_line, pending_note}
+use Rattle.merge_script.specs.Notes.{AreNoted, IsToldNote, NotesAdded, capture_notes, is_nothing, notes_held, notes_kept, notes_on, notes_text, notes_under, passed_line, passed_note, pending_line, pending_note}
 
 -- ---- one line
 module _ (label : List ℕ) (n : ℕ) where
@@ -94,10 +94,10 @@ held_notes (l ∷ labels) (u ∷ under) (t ∷ traces) each kept =
     ∙ ap (λ (more : List ℕ). notes_on l.name t ++ more) (held_notes labels under traces (omega (arith, each)) (λ k v s at at_trace. kept (suc k) v s at at_trace))
 
 one_each : (h : Held) (d : Declaration) (s : State) → StandsFor h d s → length h.under ≡ length s.traces
-one_each h d s stands = sym (length-map h.under (λ (u : Under). u.size)) ∙ ap length stands.sizes ∙ length-map s.traces size_of
+one_each h d s stands = sym (length-map h.under (λ (u : Under). u.size)) ∙ ap length stands.sizes ∙ length-map s.traces bytes_accepted
 
 -- ---- where they are told
-pub told_so : {A E : Type 0} (r : Result A E) (text : List ℕ) (old new : SinkTold) → Writes text old new r → IsTold text old new
+pub told_so : {A E : Type 0} (r : Result A E) (text : List ℕ) (old new : SinkTold) → Writes text old new r → IsToldNote text old new
 told_so (Ok a) text old new written = inl written.ok
 told_so (Err e) text old new written = inr (written.cause, written.err)
 
@@ -106,11 +106,11 @@ on_ok (Ok a) P Q turn p = turn p
 on_ok (Err e) P Q turn p = tt
 
 -- all lines of the script are added, and the notes on what the session holds are told
-pub noted_all : (d : Declaration) (old new : Devices) (h : Held) (kept : List Timed) (before after : SinkTold) → GathersAll d old new h kept → IsTold (notes_held h.declaration.labels h.under) before after →
+pub noted_all : (d : Declaration) (old new : Devices) (h : Held) (kept : List Timed) (before after : SinkTold) → GathersAll d old new h kept → IsToldNote (notes_held h.declaration.labels h.under) before after →
     AreNoted d old new before after
 noted_all d old new h kept before after all told =
     let s = all.are.state in
     let same : notes_held h.declaration.labels h.under ≡ notes_text d s.traces =
     held_notes h.declaration.labels h.under s.traces (one_each h h.declaration s all.are.stands) all.are.stands.streams ∙ ap (λ (x : Declaration). notes_text x s.traces) all.declared in
     of_script old.input.left (AddsScript d old new s) (NotesAdded d old new before after)
-    (λ script adds. record { state = s; adds = adds; told = subst (λ (text : List ℕ). IsTold text before after) same told }) all.adds
+    (λ script adds. record { state = s; adds = adds; told = subst (λ (text : List ℕ). IsToldNote text before after) same told }) all.adds

@@ -88,7 +88,7 @@ pub record TakesPart (d : Declaration) (old new : Devices) (script : List ℕ) :
   pub adds : AddsAll d old new (whole_lines taken) state
 
 -- the script is too long, and the whole lines of its first bytes are added
-pub record IsTooLong (d : Declaration) (old new : Devices) (script : List ℕ) : Type 0 where
+pub record IsScriptTooLong (d : Declaration) (old new : Devices) (script : List ℕ) : Type 0 where
   pub long : most_taken < length script
   pub state : State
   pub adds : AddsAll d old new (whole_lines (take most_taken script)) state

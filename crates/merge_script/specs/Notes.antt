@@ -70,14 +70,14 @@ notes_held (label ∷ labels) (u ∷ under) = notes_kept label.name u.stream ++ 
 
 -- ---- where they are told
 -- the text is told; or a front of it, where a write failed
-abbrev pub IsTold : List ℕ → SinkTold → SinkTold → Type 0
-IsTold text old new = Appends old.written new.written text ⊎ (Rose old.faults new.faults × AppendsPrefix old.written new.written text)
+abbrev pub IsToldNote : List ℕ → SinkTold → SinkTold → Type 0
+IsToldNote text old new = Appends old.written new.written text ⊎ (Rose old.faults new.faults × AppendsPrefix old.written new.written text)
 
 -- all lines of the script are added, and the notes on what was then accepted are told
 pub record NotesAdded (d : Declaration) (old new : Devices) (before after : SinkTold) (script : List ℕ) : Type 0 where
   pub state : State
   pub adds : AddsScript d old new state script
-  pub told : IsTold (notes_text d state.traces) before after
+  pub told : IsToldNote (notes_text d state.traces) before after
 
 -- so it is with the script, where the input tells it
 abbrev pub AreNoted : Declaration → Devices → Devices → SinkTold → SinkTold → Type 0

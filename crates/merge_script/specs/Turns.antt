@@ -13,7 +13,7 @@ use Rattle.session.specs.Script.{Devices, devices, OfScript}
 use Rattle.session.specs.Turns.{TakesOff, FailsInLine, IsPastMost}
 use Rattle.merge_script.specs.declared.unmerged.Unmerged.{Unmerged}
 use Rattle.merge_script.specs.declared.unmerged.Unmerged.TheVariants as ends
-use Rattle.merge_script.specs.Gathered.{AreAllOf, MergeReply, IsLastBy, AddsScript, StopsAt, TakesPart, IsTooLong}
+use Rattle.merge_script.specs.Gathered.{AreAllOf, MergeReply, IsLastBy, AddsScript, StopsAt, TakesPart, IsScriptTooLong}
 
 -- files and input at one moment; nothing is written
 abbrev pub reads : FilesTold → SourceTold → Devices
@@ -36,7 +36,7 @@ pub record AddsLine (line : List ℕ) (files files' : FilesTold) (h h' : Held) (
   pub counted : AreCounted (found ∷ []) files files'
 
 -- the line ends the run so
-pub record EndsLine (line : List ℕ) (files files' : FilesTold) (h : Held) (s : State) (why : Unmerged) : Type 0 where
+pub record EndsRunAt (line : List ℕ) (files files' : FilesTold) (h : Held) (s : State) (why : Unmerged) : Type 0 where
   pub found : Found
   pub text : List ℕ
   pub then : State
@@ -46,7 +46,7 @@ pub record EndsLine (line : List ℕ) (files files' : FilesTold) (h : Held) (s :
 
 -- memory ran out, or the line ends the run so
 abbrev pub EndsOrLacks : List ℕ → FilesTold → FilesTold → Held → List Timed → Unmerged → Type 0
-EndsOrLacks line files files' h kept why = (why ≡ ends.Memory) ⊎ ((x : AreKeptFor h kept) → EndsLine line files files' h x.state why)
+EndsOrLacks line files files' h kept why = (why ≡ ends.Memory) ⊎ ((x : AreKeptFor h kept) → EndsRunAt line files files' h x.state why)
 
 -- the next line was taken off, and added
 pub record TakesLine (h h' : Held) (r r' : Reader) (old new : Devices) (kept kept' : List Timed) : Type 0 where
@@ -56,18 +56,18 @@ pub record TakesLine (h h' : Held) (r r' : Reader) (old new : Devices) (kept kep
 -- the next line was taken off, and ends the run so
 pub record TakesLast (h : Held) (r r' : Reader) (old new : Devices) (kept : List Timed) (why : Unmerged) : Type 0 where
   pub off : TakesOff r r' old new
-  pub ends : (x : AreKeptFor h kept) → EndsLine off.line old.files new.files h x.state why
+  pub ends : (x : AreKeptFor h kept) → EndsRunAt off.line old.files new.files h x.state why
 
 -- why the run ends
-abbrev pub EndsSo : Held → Reader → Reader → Devices → Devices → List Timed → Unmerged → Type 0
-EndsSo h r r' old new kept (ends.Refused said) = TakesLast h r r' old new kept (ends.Refused said)
-EndsSo h r r' old new kept ends.Size = TakesLast h r r' old new kept ends.Size
-EndsSo h r r' old new kept ends.Inconsistent = ⊥
-EndsSo h r r' old new kept ends.Links = ⊥
-EndsSo h r r' old new kept ends.Range = ⊥
-EndsSo h r r' old new kept ends.ReadFault = FailsInLine r r' old new
-EndsSo h r r' old new kept ends.Limit = IsPastMost r r' old new
-EndsSo h r r' old new kept ends.Memory = Unit {0}
+abbrev pub EndsRunSo : Held → Reader → Reader → Devices → Devices → List Timed → Unmerged → Type 0
+EndsRunSo h r r' old new kept (ends.Refused said) = TakesLast h r r' old new kept (ends.Refused said)
+EndsRunSo h r r' old new kept ends.Size = TakesLast h r r' old new kept ends.Size
+EndsRunSo h r r' old new kept ends.Inconsistent = ⊥
+EndsRunSo h r r' old new kept ends.Links = ⊥
+EndsRunSo h r r' old new kept ends.Range = ⊥
+EndsRunSo h r r' old new kept ends.ReadFault = FailsInLine r r' old new
+EndsRunSo h r r' old new kept ends.Limit = IsPastMost r r' old new
+EndsRunSo h r r' old new kept ends.Memory = Unit {0}
 
 -- ---- all turns
 -- all lines of the script are added, and these are then all packets
@@ -84,5 +84,5 @@ GathersNone d old new ends.Inconsistent = ⊥
 GathersNone d old new ends.Links = ⊥
 GathersNone d old new ends.Range = ⊥
 GathersNone d old new ends.ReadFault = Rose old.input.faults new.input.faults × OfScript old.input.left (TakesPart d old new)
-GathersNone d old new ends.Limit = OfScript old.input.left (IsTooLong d old new)
+GathersNone d old new ends.Limit = OfScript old.input.left (IsScriptTooLong d old new)
 GathersNone d old new ends.Memory = Unit {0}

@@ -7,7 +7,7 @@ ghost use Rattle.replies.specs.Sessions.{start};
 ghost use Rattle.session.specs.Stands.{StandsFor, IsReady};
 ghost use Rattle.session.specs.Turns.{HasNoLine};
 ghost use Rattle.merge_script.specs.Gathered.{bytes_in, most_bytes};
-ghost use Rattle.merge_script.specs.Turns.{AreKeptFor, AddsLine, EndsOrLacks, EndsSo, GathersAll, GathersNone, TakesLine, reads};
+ghost use Rattle.merge_script.specs.Turns.{AreKeptFor, AddsLine, EndsOrLacks, EndsRunSo, GathersAll, GathersNone, TakesLine, reads};
 
 use crate::Unmerged;
 use crate::sizes::with_all;
@@ -78,7 +78,7 @@ fn take_line<F: Files, I: Source, L: Ledger>(
         (TakesLine session.old session.new reader.old reader.new (reads (F.told files.old) (I.told input.old)) (reads (F.told files.new) (I.told input.new)) (all_timed kept.old.items) (all_timed kept.new.items))
         (HasNoLine reader.old reader.new (reads (F.told files.old) (I.told input.old)) (reads (F.told files.new) (I.told input.new)))) }
     ensures same { IfOk result (λ more. more ≡ false → (session.new ≡ session.old) × (kept.new.items ≡ kept.old.items)) }
-    ensures err { IfErr result (EndsSo session.old reader.old reader.new (reads (F.told files.old) (I.told input.old)) (reads (F.told files.new) (I.told input.new)) (all_timed kept.old.items)) }
+    ensures err { IfErr result (EndsRunSo session.old reader.old reader.new (reads (F.told files.old) (I.told input.old)) (reads (F.told files.new) (I.told input.new)) (all_timed kept.old.items)) }
     ensures total { IfOk result (λ more. more ≡ true → (total.new ≡ bytes_in (all_timed kept.new.items)) × (total.new ≤ most_bytes)) }
     ensures going { IfOk result (λ more. more ≡ true → reader.new.over ≡ false) }
     ensures ready { OnOk result (IsReady session.new) }

@@ -3,13 +3,13 @@ ghost use Rattle.std.specs.Prelude.{◌≡◌, ◌≤◌, ◌≤ℤ◌, pos, All
 ghost use Rattle.ports.specs.Files.{Keeps};
 ghost use Rattle.decl.specs.Declaration.{IsDeclaration, declaration_of};
 ghost use Rattle.report.specs.Merging.{AreApart};
-ghost use Rattle.mergecap.specs.MergedCapture.{AreWritable, IsArranged, IsShort, keys_of};
+ghost use Rattle.mergecap.specs.MergedCapture.{AreWritable, IsArranged, IsShort, merge_keys};
 ghost use Rattle.mergecap.specs.Packets.{all_timed};
 ghost use Rattle.replies.specs.Sessions.{start};
 ghost use Rattle.session.specs.Stands.{StandsFor, IsReady, seen_held};
 ghost use Rattle.merge_script.specs.Turns.{AreKeptFor, reads};
 ghost use Rattle.merge_script.specs.Merged.{IsMergeOf, LacksMerge, MergesTo, MergesNot, IsUnarranged, unarranged};
-ghost use Rattle.merge_script.specs.Notes.{AreNoted, IsTold, notes_held};
+ghost use Rattle.merge_script.specs.Notes.{AreNoted, IsToldNote, notes_held};
 
 use crate::Unmerged;
 use crate::added_packets::gather;
@@ -35,7 +35,7 @@ fn unarranged(error: ArrangeError) -> Unmerged
 
 // Arranges packets at their times.
 fn arranged(alloc: Global, kept: Vec<Stored>) -> Result<Vec<Stored>, Unmerged>
-    requires differ { AreApart (keys_of (all_timed kept.items)) }
+    requires differ { AreApart (merge_keys (all_timed kept.items)) }
     requires times { All (λ (s : Stored). pos 0 ≤ℤ s.value) kept.items }
     ensures arranged { IfOk result (λ all. IsArranged (all_timed kept.items) (all_timed all.items)) }
     ensures writable { IfOk result (λ all. AreWritable (all_timed all.items)) }
@@ -77,7 +77,7 @@ fn merge_noted<N: Sink>(
     ensures writable { IfOk result (λ ordered. AreWritable (all_timed ordered.items)) }
     ensures short { IfOk result (λ ordered. All IsShort (all_timed ordered.items)) }
     ensures err { IfErr result (LacksMerge session.now.declaration (seen_held session.now.under) (all_timed kept.items)) }
-    ensures noted { OnOk result (IsTold (notes_held session.now.declaration.labels session.now.under) (N.told notes.old) (N.told notes.new)) }
+    ensures noted { OnOk result (IsToldNote (notes_held session.now.declaration.labels session.now.under) (N.told notes.old) (N.told notes.new)) }
     ensures quiet { OnErr result (N.told notes.new ≡ N.told notes.old) }
 {
     match merge(alloc, session, kept) {

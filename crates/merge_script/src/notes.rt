@@ -3,10 +3,10 @@ ghost use Rattle.std.specs.Prelude.{◌≡◌, ◌≤◌, ◌+◌, ◌∷◌, []
 ghost use Rattle.atto.specs.Decimal.{decimal_of};
 ghost use Rattle.line_format.specs.Words.{words};
 ghost use Rattle.ports.specs.Content.{Writes};
-ghost use Rattle.ports.specs.Room.{HasRoom};
+ghost use Rattle.ports.specs.Room.{HasRoomBehind};
 ghost use Rattle.captures.specs.Feeding.{passed_of, waiting_of};
 ghost use Rattle.session.specs.Stands.{under_of};
-ghost use Rattle.merge_script.specs.Notes.{IsTold, capture_notes, is_nothing, notes_held, notes_kept, passed_line, passed_note, pending_line, pending_note};
+ghost use Rattle.merge_script.specs.Notes.{IsToldNote, capture_notes, is_nothing, notes_held, notes_kept, passed_line, passed_note, pending_line, pending_note};
 
 use captures::{CaptureStream, Passed};
 use decl::Label;
@@ -30,7 +30,7 @@ fn pending_line(label: &Name, pending: u32) -> Line
 // Appends a word and a count.
 fn push_count(line: &mut Line, word: &[u8], count: u32)
     requires short { length word.now ≤ 48 }
-    requires room { HasRoom line.old.items 98 }
+    requires room { HasRoomBehind line.old.items 98 }
     ensures appended { (first : List ℕ) (ws : List (List ℕ)) → line.old.items ≡ words (first ∷ ws) → line.new.items ≡ words (first ∷ ws ++ word.now ∷ decimal_of count ∷ []) }
     ensures grown { length line.new.items ≤ length line.old.items + 98 }
 {
@@ -113,7 +113,7 @@ fn write_all<N: Sink>(labels: &[Label], under: &[Accepted], notes: &mut N) -> Re
 
 /// Tells the notes on all that a session was added. Where a write fails, a front of them is told, and that is all.
 pub(crate) fn tell_notes<N: Sink>(session: &Session, notes: &mut N)
-    ensures { IsTold (notes_held session.now.declaration.labels session.now.under) (N.told notes.old) (N.told notes.new) }
+    ensures { IsToldNote (notes_held session.now.declaration.labels session.now.under) (N.told notes.old) (N.told notes.new) }
 {
     let _ = write_all(&session.decl().labels, session.under(), notes);
 }

@@ -6,7 +6,7 @@ use Rattle.std.proofs.lemmas.List.{get_or-map, length-map}
 use Rattle.std.proofs.lemmas.List.Elements.{All-map, All-nil, All-cons, All-contains}
 use Rattle.std.proofs.lemmas.List.Sorted.{All-permutation, Contains-permutation, IsPermutation-sym}
 use Rattle.mergecap.specs.declared.stored.Stored.{Stored}
-use Rattle.mergecap.specs.MergedCapture.{AreWritable, HasOneLink, HasTwoLinks, HasNoRecord, IsArranged, IsInRange, Timed, header_nanos, link_of, time_limit, whole_nanos}
+use Rattle.mergecap.specs.MergedCapture.{AreWritable, HasOneLink, HasTwoLinks, HasNoRecord, IsArranged, IsInRange, Timed, header_nanos, link_type_of, time_limit, whole_nanos}
 use Rattle.mergecap.specs.Packets.{timed, all_timed}
 
 timed_at : (kept : List Stored) (k : ℕ) (s : Stored) → k < length kept → get_or kept k s ≡ s → Contains (all_timed kept) (timed s)
@@ -36,7 +36,7 @@ same_or_other x y =
       ]
     ]
 
-two_links : (kept : List Stored) → Any (λ (s : Stored). s.packet.link ≢ link_of (all_timed kept)) kept → HasTwoLinks (all_timed kept)
+two_links : (kept : List Stored) → Any (λ (s : Stored). s.packet.link ≢ link_type_of (all_timed kept)) kept → HasTwoLinks (all_timed kept)
 two_links [] (k, s, inside, at, other) = absurd (omega (arith, inside))
 two_links (t ∷ kept) (k, s, inside, at, other) = (timed t, timed s, (0, omega arith, refl), timed_at (t ∷ kept) k s inside at, λ same. other (sym same))
 
@@ -45,7 +45,7 @@ one_link kept link all a b first second =
     let each : All (λ (t : Timed). t.packet.link ≡ link) (all_timed kept) = All-map (λ (t : Timed). t.packet.link ≡ link) timed kept all in
     All-contains (λ (t : Timed). t.packet.link ≡ link) (all_timed kept) a each first ∙ sym (All-contains (λ (t : Timed). t.packet.link ≡ link) (all_timed kept) b each second)
 
-pub links_told : (kept : List Stored) (link : ℕ) (b : Bool) → link ≡ link_of (all_timed kept) → IsTrue b ↔ All (λ (s : Stored). s.packet.link ≡ link) kept → MatchBool b (HasOneLink (all_timed kept)) (HasTwoLinks (all_timed kept))
+pub links_told : (kept : List Stored) (link : ℕ) (b : Bool) → link ≡ link_type_of (all_timed kept) → IsTrue b ↔ All (λ (s : Stored). s.packet.link ≡ link) kept → MatchBool b (HasOneLink (all_timed kept)) (HasTwoLinks (all_timed kept))
 links_told kept link true is told = one_link kept link (told.0 refl)
 links_told kept link false is told =
     two_links kept (subst (λ (l : ℕ). Any (λ (s : Stored). s.packet.link ≢ l) kept) is

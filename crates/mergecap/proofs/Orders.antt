@@ -12,7 +12,7 @@ use Rattle.std.proofs.lemmas.List.Sorted.{ranks_by, sorted_far, IsPermutation-ma
 use Rattle.std.proofs.lemmas.Map.Keys.{IsDistinct-IsPermutation, IsDistinct-from_apart, apart_from_distinct}
 use Rattle.report.specs.declared.merge.MergeKey.{MergeKey}
 use Rattle.report.specs.Merging.{ComesFirst, AreApart}
-use Rattle.mergecap.specs.MergedCapture.{IsArranged, Timed, keys_of}
+use Rattle.mergecap.specs.MergedCapture.{IsArranged, Timed, merge_keys}
 
 -- ---- the order of two keys
 abbrev pub key_cmp : MergeKey → MergeKey → Ordering
@@ -69,14 +69,14 @@ module _ {X : Type 0} (f : X → Timed) where
   key_at : (xs : List X) (i : ℕ) (x : X) (d : Timed) → i < length xs → (get_or (map f xs) i d).key ≡ (f (get_or xs i x)).key
   key_at xs i x d inside = ap (λ (t : Timed). t.key) (get_or-map f xs i x d inside)
 
-  sorted_keys : (xs : List X) (x : X) → IsSortedByKey (λ y. (f y).key) key_cmp xs → AreApart (keys_of (map f xs)) → AllPairs (λ (a b : Timed). ComesFirst a.key b.key) (map f xs)
+  sorted_keys : (xs : List X) (x : X) → IsSortedByKey (λ y. (f y).key) key_cmp xs → AreApart (merge_keys (map f xs)) → AllPairs (λ (a b : Timed). ComesFirst a.key b.key) (map f xs)
   sorted_keys xs x up apart i j d below inside =
       let long : length (map f xs) ≡ length xs = length-map xs f in
       let last : j < length xs = omega (arith, inside, long) in
       let first : i < length xs = omega (arith, below, last) in
       let here = key_at xs i x d first in
       let there = key_at xs j x d last in
-      let keys : length (keys_of (map f xs)) ≡ length (map f xs) = length-map (map f xs) (λ (t : Timed). t.key) in
+      let keys : length (merge_keys (map f xs)) ≡ length (map f xs) = length-map (map f xs) (λ (t : Timed). t.key) in
       let differ = apart i j d.key below (omega (arith, keys, inside)) in
       let own = get_or-map (λ (t : Timed). t.key) (map f xs) i d d.key (omega (arith, below, inside)) in
       let other = get_or-map (λ (t : Timed). t.key) (map f xs) j d d.key inside in
@@ -85,17 +85,17 @@ module _ {X : Type 0} (f : X → Timed) where
       (λ place number. differ (ap (λ (k : MergeKey). k.place) own ∙ place ∙ sym (ap (λ (k : MergeKey). k.place) other)) (ap (λ (k : MergeKey). k.n) own ∙ number ∙ sym (ap (λ (k : MergeKey). k.n) other)))
       (subst (λ (k : MergeKey). is_lt (key_cmp k (get_or (map f xs) i d).key) ≡ false) (sym there) (subst (λ (k : MergeKey). is_lt (key_cmp (f (get_or xs j x)).key k) ≡ false) (sym here) less))
 
-  in_order : (xs : List X) → IsSortedByKey (λ y. (f y).key) key_cmp xs → AreApart (keys_of (map f xs)) → AllPairs (λ (a b : Timed). ComesFirst a.key b.key) (map f xs)
+  in_order : (xs : List X) → IsSortedByKey (λ y. (f y).key) key_cmp xs → AreApart (merge_keys (map f xs)) → AllPairs (λ (a b : Timed). ComesFirst a.key b.key) (map f xs)
   in_order [] up apart = λ i j d below inside. absurd (omega (arith, inside))
   in_order (x ∷ xs) up apart = sorted_keys (x ∷ xs) x up apart
 
-  pub arranged : (old new : List X) → AreApart (keys_of (map f old)) → IsPermutation old new → IsSortedByKey (λ y. (f y).key) key_cmp new → IsArranged (map f old) (map f new)
+  pub arranged : (old new : List X) → AreApart (merge_keys (map f old)) → IsPermutation old new → IsSortedByKey (λ y. (f y).key) key_cmp new → IsArranged (map f old) (map f new)
   arranged old new apart moved up =
       let same : IsPermutation (map f old) (map f new) = IsPermutation-map f old new moved in
-      let keys : IsPermutation (keys_of (map f old)) (keys_of (map f new)) = IsPermutation-map (λ (t : Timed). t.key) (map f old) (map f new) same in
-      record { same = same; sorted = in_order new up (apart_still (keys_of (map f old)) (keys_of (map f new)) keys apart) }
+      let keys : IsPermutation (merge_keys (map f old)) (merge_keys (map f new)) = IsPermutation-map (λ (t : Timed). t.key) (map f old) (map f new) same in
+      record { same = same; sorted = in_order new up (apart_still (merge_keys (map f old)) (merge_keys (map f new)) keys apart) }
 
   -- the same where the sort may fail, by whatever says that it is sorted
-  pub arranged_or : {A E S : Type 0} (old new : List X) (r : Result A E) → AreApart (keys_of (map f old)) → IsPermutation old new → OnOk r S → (S → IsSortedByKey (λ y. (f y).key) key_cmp new) → OnOk r (IsArranged (map f old) (map f new))
+  pub arranged_or : {A E S : Type 0} (old new : List X) (r : Result A E) → AreApart (merge_keys (map f old)) → IsPermutation old new → OnOk r S → (S → IsSortedByKey (λ y. (f y).key) key_cmp new) → OnOk r (IsArranged (map f old) (map f new))
   arranged_or old new (Ok a) apart moved sorted up = arranged old new apart moved (up sorted)
   arranged_or old new (Err e) apart moved sorted up = tt

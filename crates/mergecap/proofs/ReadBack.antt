@@ -9,8 +9,9 @@ use Rattle.byteorder.specs.Numbers.{little_number-reads_back}
 use Rattle.pcap_stream.specs.declared.header.Order.TheVariants.{Little}
 use Rattle.pcap_stream.specs.declared.header.Fraction.TheVariants.{Nanos}
 use Rattle.pcap_stream.specs.declared.header.Header.{Header}
-use Rattle.pcap_stream.specs.Capture.{BeginsHeader, HasRecord, IsHeader, IsRecord, Seen, magic, packet_of, version}
-use Rattle.mergecap.specs.MergedCapture.{AreWritable, HasOneLink, IsInRange, IsShort, Timed, four_bytes, header, header_nanos, link_of, merged_capture, record_head, record_of, whole_nanos}
+use Rattle.packets.specs.Packets.{Seen}
+use Rattle.pcap_stream.specs.Capture.{BeginsHeader, HasRecord, IsHeader, IsRecord, magic, packet_of, version}
+use Rattle.mergecap.specs.MergedCapture.{AreWritable, HasOneLink, IsInRange, IsShort, Timed, four_bytes, header, header_nanos, link_type_of, merged_capture, record_head, record_of_packet, whole_nanos}
 use Rattle.mergecap.specs.Reading.{HasLinkType, IsReadBack, stamped}
 
 -- ---- numbers
@@ -40,7 +41,7 @@ header_said : little_number 4 (magic Little Nanos ++ version Little) * 100000000
 header_said = refl
 
 -- a record does not begin as a header does, since its time is another
-no_header : (link : ℕ) (t : Timed) → IsInRange t → BeginsHeader (header_of link) (record_of t).head → ⊥
+no_header : (link : ℕ) (t : Timed) → IsInRange t → BeginsHeader (header_of link) (record_of_packet t).head → ⊥
 no_header link t is begins =
     let nanos : ℕ = whole_nanos t.key.value in
     let both : List ℕ = four_bytes (nanos / 1000000000) ++ four_bytes (nanos % 1000000000) in
@@ -50,7 +51,7 @@ no_header link t is begins =
     let said : little_number 4 both * 1000000000 + little_number 4 (drop 4 both) ≡ nanos = stamp_said nanos _ _ seconds rest in
     is.other (sym said ∙ ap (λ (l : List ℕ). little_number 4 l * 1000000000 + little_number 4 (drop 4 l)) same ∙ header_said)
 
-record_is : (link : ℕ) (t : Timed) → IsInRange t → IsShort t → IsRecord (header_of link) (record_of t)
+record_is : (link : ℕ) (t : Timed) → IsInRange t → IsShort t → IsRecord (header_of link) (record_of_packet t)
 record_is link t is short = record {
   size = refl;
   length_said = read_four (length t.packet.bytes) (four_bytes (length t.packet.bytes)) (omega (arith, short));
@@ -64,7 +65,7 @@ seen_with stamp link bytes = record { stamp = stamp; link = link; bytes = bytes 
 seen_one : (stamp stamp' link link' : ℕ) (bytes : List ℕ) → stamp ≡ stamp' → link ≡ link' → seen_with stamp link bytes ≡ seen_with stamp' link' bytes
 seen_one stamp stamp' link link' bytes p q = cc
 
-packet_is : (link : ℕ) (t : Timed) → t.packet.link ≡ link → IsInRange t → packet_of (header_of link) (record_of t) ≡ stamped t
+packet_is : (link : ℕ) (t : Timed) → t.packet.link ≡ link → IsInRange t → packet_of (header_of link) (record_of_packet t) ≡ stamped t
 packet_is link t same is =
     let nanos : ℕ = whole_nanos t.key.value in
     let captured : List ℕ = four_bytes (length t.packet.bytes) ++ four_bytes (length t.packet.bytes) in
@@ -73,18 +74,18 @@ packet_is link t same is =
     seen_one _ nanos link t.packet.link t.packet.bytes (stamp_said nanos _ _ seconds rest) (sym same)
 
 -- ---- all records
-records_are : (link : ℕ) (ts : List Timed) → All IsInRange ts → All IsShort ts → All (IsRecord (header_of link)) (map record_of ts)
+records_are : (link : ℕ) (ts : List Timed) → All IsInRange ts → All IsShort ts → All (IsRecord (header_of link)) (map record_of_packet ts)
 records_are link ts range short =
-    All-map (IsRecord (header_of link)) record_of ts (λ k d inside. record_is link (get_or ts k d) (range k d inside) (short k d inside))
+    All-map (IsRecord (header_of link)) record_of_packet ts (λ k d inside. record_is link (get_or ts k d) (range k d inside) (short k d inside))
 
-packets_are : (link : ℕ) (ts : List Timed) → All (λ (t : Timed). t.packet.link ≡ link) ts → All IsInRange ts → map (packet_of (header_of link)) (map record_of ts) ≡ map stamped ts
+packets_are : (link : ℕ) (ts : List Timed) → All (λ (t : Timed). t.packet.link ≡ link) ts → All IsInRange ts → map (packet_of (header_of link)) (map record_of_packet ts) ≡ map stamped ts
 packets_are link [] same is = refl
 packets_are link (t ∷ ts) same is =
     let first = packet_is link t (All-head (λ (u : Timed). u.packet.link ≡ link) t ts same) (All-head IsInRange t ts is) in
     let more = packets_are link ts (All-tail (λ (u : Timed). u.packet.link ≡ link) t ts same) (All-tail IsInRange t ts is) in
     rw (first, more) refl
 
-links_are : (ts : List Timed) → HasOneLink ts → All (λ (t : Timed). t.packet.link ≡ link_of ts) ts
+links_are : (ts : List Timed) → HasOneLink ts → All (λ (t : Timed). t.packet.link ≡ link_type_of ts) ts
 links_are [] one = All-nil (λ (t : Timed). t.packet.link ≡ 1)
 links_are (t ∷ ts) one = λ k d inside. one (get_or (t ∷ ts) k d) t (Contains-get_or (t ∷ ts) k d inside) (0, omega arith, refl)
 
@@ -106,9 +107,9 @@ nothing_left link (r, after, is, whole) =
 
 pub read_back : (ts : List Timed) → AreWritable ts → All IsShort ts → HasLinkType ts → IsReadBack ts
 read_back ts writable short links =
-    let link : ℕ = link_of ts in
+    let link : ℕ = link_type_of ts in
     record {
-      capture = record { header = Some (header_of link); records = map record_of ts; rest = [] };
+      capture = record { header = Some (header_of link); records = map record_of_packet ts; rest = [] };
       reads = record {
         made = record {
           header = header link;

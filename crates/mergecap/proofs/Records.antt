@@ -8,12 +8,12 @@ use Rattle.ports.specs.Content.{SinkTold, Writes}
 use Rattle.ports.proofs.Writing.{Leaves, leaves_as, leaves_less, leaves_cut, leaves_none}
 use Rattle.pcap_stream.specs.Capture.{bytes_of}
 use Rattle.mergecap.specs.declared.stored.Stored.{Stored}
-use Rattle.mergecap.specs.MergedCapture.{IsInRange, IsShort, IsWritable, Timed, record_of}
+use Rattle.mergecap.specs.MergedCapture.{IsInRange, IsShort, IsWritable, Timed, record_of_packet}
 use Rattle.mergecap.specs.Packets.{timed, all_timed}
 
 -- the bytes of a packet's record
 abbrev pub record_bytes : Stored → List ℕ
-record_bytes s = bytes_of (record_of (timed s))
+record_bytes s = bytes_of (record_of_packet (timed s))
 
 rest_is : (kept : List Stored) (k : ℕ) (s : Stored) → k < length kept → s ≡ get_or kept k s → drop k kept ≡ s ∷ drop (k + 1) kept
 rest_is [] k s inside is = absurd (omega (arith, inside))
@@ -38,7 +38,7 @@ module _ (kept : List Stored) {old now : SinkTold} {all : List ℕ} where
   records_written k past left = leaves_none (leaves_as (ap (flat_map record_bytes) (drop_all k kept past)) left)
 
 -- the records of the packets, as they are in the capture
-pub records_same : (kept : List Stored) → flat_map record_bytes kept ≡ flat_map bytes_of (map record_of (all_timed kept))
+pub records_same : (kept : List Stored) → flat_map record_bytes kept ≡ flat_map bytes_of (map record_of_packet (all_timed kept))
 records_same [] = refl
 records_same (s ∷ kept) = ap (λ (l : List ℕ). record_bytes s ++ l) (records_same kept)
 

@@ -3,7 +3,8 @@ use Rattle.std.specs.Prelude.{◌≡◌, ◌≢◌, ◌⊎◌, ℕ, ◌+◌, ◌
 use Rattle.std.specs.List.{flat_map}
 use Rattle.std.specs.List.Sorted.{IsPermutation}
 use Rattle.byteorder.specs.Endian.{little_bytes}
-use Rattle.pcap_stream.specs.Capture.{Record, Seen, bytes_of, magic, version}
+use Rattle.packets.specs.Packets.{Seen}
+use Rattle.pcap_stream.specs.Capture.{Record, bytes_of, magic, version}
 use Rattle.pcap_stream.specs.declared.header.Order.TheVariants.{Little}
 use Rattle.pcap_stream.specs.declared.header.Fraction.TheVariants.{Nanos}
 use Rattle.report.specs.declared.merge.MergeKey.{MergeKey}
@@ -18,8 +19,8 @@ pub record Timed : Type 0 where
 
 -- ---- the order
 -- what packets are merged by
-abbrev pub keys_of : List Timed → List MergeKey
-keys_of ts = map (λ (t : Timed). t.key) ts
+abbrev pub merge_keys : List Timed → List MergeKey
+merge_keys ts = map (λ (t : Timed). t.key) ts
 
 -- the same packets, and each comes before those behind it, as events do in a merge
 pub record IsArranged (old new : List Timed) : Type 0 where
@@ -45,17 +46,17 @@ abbrev pub record_head : ℕ → ℕ → List ℕ
 record_head nanos captured = four_bytes (nanos / 1000000000) ++ four_bytes (nanos % 1000000000) ++ four_bytes captured ++ four_bytes captured
 
 -- the record of a packet at its time
-abbrev pub record_of : Timed → Record
-record_of t = record { head = record_head (whole_nanos t.key.value) (length t.packet.bytes); captured = t.packet.bytes }
+abbrev pub record_of_packet : Timed → Record
+record_of_packet t = record { head = record_head (whole_nanos t.key.value) (length t.packet.bytes); captured = t.packet.bytes }
 
 -- the link type of the first packet, or Ethernet, if there is none
-abbrev pub link_of : List Timed → ℕ
-link_of [] = 1
-link_of (t ∷ ts) = t.packet.link
+abbrev pub link_type_of : List Timed → ℕ
+link_type_of [] = 1
+link_type_of (t ∷ ts) = t.packet.link
 
 -- all bytes of the capture
 abbrev pub merged_capture : List Timed → List ℕ
-merged_capture ts = header (link_of ts) ++ flat_map bytes_of (map record_of ts)
+merged_capture ts = header (link_type_of ts) ++ flat_map bytes_of (map record_of_packet ts)
 
 -- ---- when packets can stand in one capture
 -- 2^32 s in units of 1e-9 ns

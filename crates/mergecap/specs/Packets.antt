@@ -1,6 +1,6 @@
 -- The packets of the code.
 use Rattle.std.specs.Prelude.{List, map}
-use Rattle.pcap_stream.specs.Feeding.{seen_packet}
+use Rattle.packets.specs.Packets.{seen_packet}
 use Rattle.mergecap.specs.declared.stored.Stored.{Stored}
 use Rattle.mergecap.specs.MergedCapture.{Timed}
 

@@ -1,11 +1,12 @@
 -- A merged capture that is read.
 use Rattle.std.specs.Prelude.{◌≡◌, ◌<◌, List, [], map}
-use Rattle.pcap_stream.specs.Capture.{Capture, Reads, Seen, packets_of}
-use Rattle.mergecap.specs.MergedCapture.{Timed, link_of, merged_capture, whole_nanos}
+use Rattle.packets.specs.Packets.{Seen}
+use Rattle.pcap_stream.specs.Capture.{Capture, Reads, packets_of}
+use Rattle.mergecap.specs.MergedCapture.{Timed, link_type_of, merged_capture, whole_nanos}
 
 -- the link type of the capture has 16 bits
 abbrev pub HasLinkType : List Timed → Type 0
-HasLinkType ts = link_of ts < 65536
+HasLinkType ts = link_type_of ts < 65536
 
 -- the packet with its time, in whole ns, as its stamp
 abbrev pub stamped : Timed → Seen

@@ -1,7 +1,7 @@
 // What stands before the packets of a capture, and before the bytes of each.
 ghost use Rattle.std.specs.Prelude.{◌≡◌, ◌≤◌, ◌<◌, ◌+◌, ◌++◌, ◌↔◌, length, IsTrue};
 ghost use Rattle.byteorder.specs.Endian.{little_bytes};
-ghost use Rattle.mergecap.specs.MergedCapture.{header, header_nanos, link_of, record_of, whole_nanos, IsWritable};
+ghost use Rattle.mergecap.specs.MergedCapture.{header, header_nanos, link_type_of, record_of_packet, whole_nanos, IsWritable};
 ghost use Rattle.mergecap.specs.Packets.{timed, all_timed};
 ghost use Rattle.mergecap.specs.Reading.{HasLinkType};
 
@@ -44,7 +44,7 @@ fn link_type(stored: &Stored) -> u16
 
 /// The link type of the first packet; that of Ethernet where there is none.
 pub(crate) fn link_of(kept: &[Stored]) -> u16
-    ensures value { result ≡ link_of (all_timed kept.now) }
+    ensures value { result ≡ link_type_of (all_timed kept.now) }
     ensures small { HasLinkType (all_timed kept.now) }
 {
     match kept.first() {
@@ -104,7 +104,7 @@ pub(crate) fn is_header_time(units: i128) -> bool
 /// were captured.
 pub(crate) fn record_head(stored: &Stored) -> ArrayVec<u8, HEAD_BYTES>
     requires { IsWritable (timed stored.now) }
-    ensures { result.items ≡ (record_of (timed stored.now)).head }
+    ensures { result.items ≡ (record_of_packet (timed stored.now)).head }
 {
     let nanos = whole_nanos(stored.value);
     let captured = stored.packet.bytes.len() as u32;

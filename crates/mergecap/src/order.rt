@@ -1,7 +1,7 @@
 // Packets in the order of their times.
-ghost use Rattle.std.specs.Prelude.{◌≡◌, ◌≢◌, ◌≤ℤ◌, ◌<ℤ◌, ◌↔◌, pos, length, All, IsTrue, MatchBool, IfOk, IfErr, OnOk};
+ghost use Rattle.std.specs.Prelude.{◌≡◌, ◌≢◌, ◌≤ℤ◌, ◌<ℤ◌, ◌↔◌, pos, All, IsTrue, MatchBool, IfOk, IfErr, OnOk};
 ghost use Rattle.report.specs.Merging.{AreApart};
-ghost use Rattle.mergecap.specs.MergedCapture.{AreWritable, HasOneLink, HasTwoLinks, IsArranged, IsFault, header_nanos, keys_of, time_limit, whole_nanos};
+ghost use Rattle.mergecap.specs.MergedCapture.{AreWritable, HasOneLink, HasTwoLinks, IsArranged, IsFault, header_nanos, merge_keys, time_limit, whole_nanos};
 ghost use Rattle.mergecap.specs.Packets.{timed, all_timed};
 
 use crate::heads::{is_header_time, link_of};
@@ -53,9 +53,8 @@ fn merge_key(stored: &Stored) -> MergeKey
 
 // Sorts packets by what they are merged by. On an error they stay as they are.
 fn sort(alloc: Global, kept: &mut [Stored]) -> Result<(), AllocError>
-    requires { AreApart (keys_of (all_timed kept.old)) }
-    ensures arranged { OnOk result (IsArranged (all_timed kept.old) (all_timed kept.new)) }
-    ensures len { length kept.new ≡ length kept.old }
+    requires { AreApart (merge_keys (all_timed kept.old)) }
+    ensures { OnOk result (IsArranged (all_timed kept.old) (all_timed kept.new)) }
 {
     kept.sort_by_key(alloc, |stored| merge_key(stored))
 }
@@ -68,7 +67,7 @@ fn sort(alloc: Global, kept: &mut [Stored]) -> Result<(), AllocError>
 /// 2,712,812,621 s and 262,146 ns at which a record would begin as a file header does. `Memory` comes only where neither is
 /// so. With an error the packets are dropped.
 pub fn arrange(alloc: Global, kept: Vec<Stored>) -> Result<Vec<Stored>, ArrangeError>
-    requires differ { AreApart (keys_of (all_timed kept.items)) }
+    requires differ { AreApart (merge_keys (all_timed kept.items)) }
     requires times { All (λ (s : Stored). pos 0 ≤ℤ s.value) kept.items }
     ensures arranged { IfOk result (λ all. IsArranged (all_timed kept.items) (all_timed all.items)) }
     ensures writable { IfOk result (λ all. AreWritable (all_timed all.items)) }

@@ -1,5 +1,5 @@
 // Packets that are merged.
-use pcap_stream::Packet;
+use packets::Packet;
 
 /// A packet of a capture, and what it is merged by.
 #[derive(Debug, Drop)]

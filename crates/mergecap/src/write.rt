@@ -3,7 +3,7 @@ ghost use Rattle.std.specs.Prelude.{All};
 ghost use Rattle.std.specs.List.{flat_map};
 ghost use Rattle.ports.specs.Content.{Writes};
 ghost use Rattle.pcap_stream.specs.Capture.{bytes_of};
-ghost use Rattle.mergecap.specs.MergedCapture.{AreWritable, IsShort, IsWritable, merged_capture, record_of};
+ghost use Rattle.mergecap.specs.MergedCapture.{AreWritable, IsShort, IsWritable, merged_capture, record_of_packet};
 ghost use Rattle.mergecap.specs.Packets.{timed, all_timed};
 ghost use Rattle.mergecap.specs.Reading.{IsReadBack};
 
@@ -15,7 +15,7 @@ use ports::{Failed, Sink, write_whole};
 // Writes the record of a packet.
 fn write_record<O: Sink>(stored: &Stored, out: &mut O) -> Result<(), Failed>
     requires { IsWritable (timed stored.now) }
-    ensures { Writes (bytes_of (record_of (timed stored.now))) (O.told out.old) (O.told out.new) result }
+    ensures { Writes (bytes_of (record_of_packet (timed stored.now))) (O.told out.old) (O.told out.new) result }
 {
     write_whole(out, record_head(stored).as_slice())?;
     write_whole(out, &stored.packet.bytes)
@@ -24,7 +24,7 @@ fn write_record<O: Sink>(stored: &Stored, out: &mut O) -> Result<(), Failed>
 // Writes the records of packets, one after the other.
 fn write_records<O: Sink>(kept: &[Stored], out: &mut O) -> Result<(), Failed>
     requires { All (λ (s : Stored). IsWritable (timed s)) kept.now }
-    ensures { Writes (flat_map (λ (s : Stored). bytes_of (record_of (timed s))) kept.now) (O.told out.old) (O.told out.new) result }
+    ensures { Writes (flat_map (λ (s : Stored). bytes_of (record_of_packet (timed s))) kept.now) (O.told out.old) (O.told out.new) result }
 {
     for stored in kept {
         write_record(stored, out)?;

@@ -13,7 +13,7 @@ use Rattle.traces.proofs.Names.{id_same}
 use Rattle.report.specs.declared.merge.MergeKey.{MergeKey}
 use Rattle.report.specs.Merging.{AreApart, merge_line}
 use Rattle.replies.specs.Merged.{keys_from, line_at, line_if}
-use Rattle.replies.specs.Writing.{lines_of}
+use Rattle.replies.specs.Writing.{lines_merged}
 
 -- ---- keys
 abbrev key_of : Times → ℕ → Placed → MergeKey
@@ -63,8 +63,8 @@ line_same : (d : Declaration) (x y : Times) (events : List Placed) (k : ℕ) (th
 line_same d x y events k None agree at = refl
 line_same d x y events k (Some e) agree at = ap (λ (v : ℤ). merge_line v (name_of d e.id) e.seen.text) (agree k (slice_get_within events k e at))
 
-pub lines_agree : (d : Declaration) (x y : Times) (events : List Placed) (order : List ℕ) → Agree (length events) x y → lines_of d x events order ≡ lines_of d y events order
+pub lines_agree : (d : Declaration) (x y : Times) (events : List Placed) (order : List ℕ) → Agree (length events) x y → lines_merged d x events order ≡ lines_merged d y events order
 lines_agree d x y events [] agree = refl
 lines_agree d x y events (k ∷ order) agree =
-    ap (λ (line : List ℕ). line ++ lines_of d x events order) (line_same d x y events k (slice_get events k) agree refl)
+    ap (λ (line : List ℕ). line ++ lines_merged d x events order) (line_same d x y events k (slice_get events k) agree refl)
     ∙ ap (λ (lines : List ℕ). line_at d y events k ++ lines) (lines_agree d x y events order agree)

@@ -1,5 +1,5 @@
 -- The command of a line, by its words.
-use Rattle.std.proofs.Common.{◌≡◌, ℕ, List, [], ◌∷◌, Option, Some, None, All, true, nat_le, ◌&&◌, unwrap_or, codes, refl, sym, ◌∙◌, ap, subst, arith}
+use Rattle.std.proofs.Common.{◌≡◌, ℕ, List, [], ◌∷◌, Option, Some, None, All, true, nat_le, ◌&&◌, unwrap_or, refl, sym, ◌∙◌, ap, subst, arith}
 use Rattle.std.specs.Int.{IsInRange}
 use Rattle.std.specs.Str.{IsUtf8}
 use Rattle.std.proofs.lemmas.List.Elements.{All-cons, All-nil, All-head, All-tail, recursion_from_All}
@@ -11,7 +11,8 @@ use Rattle.line_format.specs.Cut.{cut, Lacks, fields}
 use Rattle.line_format.proofs.Cutting.{cut_again, cut_lacks}
 use Rattle.line_format.proofs.Fields.{fields_take, fields_again}
 use Rattle.line_format.proofs.Lacking.{all_high}
-use Rattle.replies.specs.Commands.{Command, Add, Interval, Order, Time, Merge, Prove, Keep, Problem, Report, IsWord, command_words, Asks, HasWords}
+use Rattle.replies.specs.Commands.{Command, IsWord, command_words, Asks, HasWords}
+use Rattle.replies.proofs.Commands.{command_of, words_tell}
 
 -- a word has no space
 word_lacks : (w : List ℕ) → IsWord w → Lacks 32 w
@@ -78,19 +79,15 @@ told_three a b c all =
     told_by_three (words (a ∷ b ∷ c ∷ [])) (a ∷ b ∷ c ∷ []) (three_again a b c (words (a ∷ b ∷ c ∷ [])) (first_word a b c all) (second_word a b c all) refl)
 
 -- the words of a command are those of its line
-words_told : (c : Command) → All IsWord (command_words c) → told (words (command_words c)) ≡ command_words c
-words_told (Add label path) all = told_three (codes "add") label path all
-words_told (Interval first second) all = told_three (codes "interval") first second all
-words_told (Order first second) all = told_three (codes "order") first second all
-words_told (Time event) all = told_two (codes "time") event all
-words_told Merge all = told_one (codes "merge") all
-words_told (Prove first second) all = told_three (codes "prove") first second all
-words_told (Keep event) all = told_two (codes "keep") event all
-words_told Problem all = told_one (codes "problem") all
-words_told Report all = told_one (codes "report") all
+words_told : (ws : List (List ℕ)) (c : Command) → command_of ws ≡ Some c → All IsWord ws → told (words ws) ≡ ws
+words_told [] c is all = absurd cc
+words_told (a ∷ []) c is all = told_one a all
+words_told (a ∷ b ∷ []) c is all = told_two a b all
+words_told (a ∷ b ∷ c ∷ []) command is all = told_three a b c all
+words_told (a ∷ b ∷ c ∷ d ∷ more) command is all = absurd cc
 
 pub command_told : (line : List ℕ) (c : Command) → Asks line (Some c) → told line ≡ command_words c
-command_told line c asks = ap told asks.0 ∙ words_told c asks.1
+command_told line c asks = ap told asks.0 ∙ words_told (command_words c) c (words_tell c) asks.1
 
 -- ---- lines
 -- a line that has these words asks for their command

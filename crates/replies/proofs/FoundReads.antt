@@ -3,7 +3,7 @@ use Rattle.std.proofs.Common.{◌≡◌, ℕ, List, [], ◌∷◌, length, Optio
 use Rattle.std.proofs.lemmas.List.Elements.{All-cons, All-head, All-nil, All-tail}
 use Rattle.decl.specs.Declaration.{Declaration}
 use Rattle.replies.specs.declared.refusal.Refusal.TheVariants.{NoCommand}
-use Rattle.replies.specs.Commands.{Command, Add, Interval, Order, Time, Merge, Prove, Keep, Problem, Report, Asks}
+use Rattle.replies.specs.Commands.{Command, Add, Keep, Ask, Asks}
 use Rattle.replies.specs.Reply.{State, Found, Unread, Bytes, Absent, Failed, Refuses, label_at, AddReply}
 use Rattle.replies.specs.Sessions.{FoundAt, CommandReply, Session, is_failed}
 use Rattle.replies.specs.Lawful.{FindsBytes, HoldBytes, NoneFailed}
@@ -20,14 +20,8 @@ module _ (d : Declaration) (files : List ℕ → Option (List ℕ)) where
   abbrev due : Option Command → Found
   due None = Unread
   due (Some (Add label path)) = due_at (label_at d label) (files path)
-  due (Some (Interval first second)) = Unread
-  due (Some (Order first second)) = Unread
-  due (Some (Time event)) = Unread
-  due (Some Merge) = Unread
-  due (Some (Prove first second)) = Unread
   due (Some (Keep event)) = Unread
-  due (Some Problem) = Unread
-  due (Some Report) = Unread
+  due (Some (Ask question)) = Unread
 
   add_due : (s after : State) (label path text : List ℕ) (place : Option ℕ) (found : Found) → FoundAt (Some files) (Add label path) found → AddReply d s place found text after → is_failed found ≡ false → found ≡ due_at place (files path)
   add_due s after label path text None Unread at reply sound = refl
@@ -42,14 +36,8 @@ module _ (d : Declaration) (files : List ℕ → Option (List ℕ)) where
   command_due : (s after : State) (c : Option Command) (found : Found) (text : List ℕ) → CommandReply d (Some files) s c found text after → is_failed found ≡ false → found ≡ due c
   command_due s after None found text reply sound = reply.0
   command_due s after (Some (Add label path)) found text reply sound = add_due s after label path text (label_at d label) found reply.0 reply.1 sound
-  command_due s after (Some (Interval first second)) found text reply sound = reply.1.0
-  command_due s after (Some (Order first second)) found text reply sound = reply.1.0
-  command_due s after (Some (Time event)) found text reply sound = reply.1.0
-  command_due s after (Some Merge) found text reply sound = reply.1.0
-  command_due s after (Some (Prove first second)) found text reply sound = reply.1.0
   command_due s after (Some (Keep event)) found text reply sound = reply.1.0
-  command_due s after (Some Problem) found text reply sound = reply.1.0
-  command_due s after (Some Report) found text reply sound = reply.1.0
+  command_due s after (Some (Ask question)) found text reply sound = reply.1.0
 
   -- a line by whether it is short
   abbrev LineReplyBy : Bool → State → List ℕ → Found → List ℕ → State → Type 0
@@ -89,14 +77,8 @@ module _ (d : Declaration) (files : List ℕ → Option (List ℕ)) where
   command_bytes : HoldBytes files → (s after : State) (c : Option Command) (found : Found) (text : List ℕ) → CommandReply d (Some files) s c found text after → FindsBytes found
   command_bytes hold s after None found text reply = unread_bytes found reply.0
   command_bytes hold s after (Some (Add label path)) found text reply = add_bytes hold label path found reply.0
-  command_bytes hold s after (Some (Interval first second)) found text reply = unread_bytes found reply.1.0
-  command_bytes hold s after (Some (Order first second)) found text reply = unread_bytes found reply.1.0
-  command_bytes hold s after (Some (Time event)) found text reply = unread_bytes found reply.1.0
-  command_bytes hold s after (Some Merge) found text reply = unread_bytes found reply.1.0
-  command_bytes hold s after (Some (Prove first second)) found text reply = unread_bytes found reply.1.0
   command_bytes hold s after (Some (Keep event)) found text reply = unread_bytes found reply.1.0
-  command_bytes hold s after (Some Problem) found text reply = unread_bytes found reply.1.0
-  command_bytes hold s after (Some Report) found text reply = unread_bytes found reply.1.0
+  command_bytes hold s after (Some (Ask question)) found text reply = unread_bytes found reply.1.0
 
   line_bytes : HoldBytes files → (short : Bool) (s after : State) (line text : List ℕ) (found : Found) → LineReplyBy short s line found text after → FindsBytes found
   line_bytes hold true s after line text found (c, asks, reply) = command_bytes hold s after c found text reply

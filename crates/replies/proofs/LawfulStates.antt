@@ -4,12 +4,13 @@ use Rattle.std.proofs.lemmas.List.{length-map, map-append}
 use Rattle.std.proofs.lemmas.List.Elements.{All-append, All-cons, All-head, All-map, All-nil, All-set, All-tail}
 use Rattle.ports.specs.Files.{Content}
 use Rattle.problem_model.specs.Problem.{ProblemLists}
+use Rattle.problem_model.specs.Limits.{most_events}
 use Rattle.event_log.specs.declared.row.Row.{Row}
-use Rattle.event_log.specs.Row.{IsRow}
+use Rattle.event_log.specs.Row.{IsRowRecord}
 use Rattle.event_log.specs.Log.{records_of, AreRows}
-use Rattle.pcapng_stream.specs.Capture as format
 use Rattle.captures.specs.Capture as captures
 use Rattle.captures.specs.Capture.{Reads, nothing}
+use Rattle.captures.proofs.Bounds.{packets_stamped}
 use Rattle.decl.specs.declared.items.Label.{Label}
 use Rattle.decl.specs.declared.items.TraceKind.{TraceKind}
 use Rattle.decl.specs.declared.items.TraceKind.TheVariants.{Capture, Log}
@@ -19,22 +20,20 @@ use Rattle.traces.specs.declared.event_id.EventId.{EventId}
 use Rattle.traces.specs.Traces.{Trace, Captured, Logged, Traces, IsOfKind, event_count, nothing_for, seen_by, seen_of}
 use Rattle.traces.specs.Messages.{problem_of}
 use Rattle.traces.specs.Making.{StampsFit}
-use Rattle.queries.specs.Replies.{IsIntervalLine, IsOrderLine, IsProofText}
 use Rattle.replies.specs.declared.refusal.Refusal.TheVariants.{NoCommand, TooManyBytes, TooManyEvents}
-use Rattle.replies.specs.Commands.{Command, Add, Interval, Order, Time, Merge, Prove, Keep, Problem, Report, Asks}
-use Rattle.replies.specs.Reply.{State, Found, Unread, Bytes, Absent, Failed, count_by, IsAdded, aside_of, Refuses, AcceptReply, with_rows, bytes_of, KindReply, PieceReply, AddReply, OfTwo, fits_label, label_at, IsPlacedAt, SlotReply, KeepReply, Reply, AreKept}
+use Rattle.replies.specs.Commands.{Command, Add, Keep, Ask, Asks}
+use Rattle.replies.specs.Reply.{State, Found, Unread, Bytes, Absent, Failed, count_by, IsAdded, aside_of, Refuses, AcceptReply, with_rows, bytes_of, KindReply, PieceReply, AddReply, fits_label, label_at, IsPlacedAt, SlotReply, KeepReply, Reply, AreKept}
 use Rattle.replies.specs.Sessions.{CommandReply, LineReply, start}
 use Rattle.replies.specs.OneReply.{IsState}
 use Rattle.replies.specs.Lawful.{AreBytes, FindsBytes, IsOfBytes, IsLawful}
 use Rattle.replies.proofs.SeenUnder.{seen_at, seen_set, events_start, kinds_start}
 use Rattle.replies.proofs.Elements.{set_or_same, le_true, none_counted, some_same}
 use Rattle.replies.proofs.KeptEvents.{kept_grown, kept_more, none_kept}
-use Rattle.replies.proofs.CaptureStamps.{packets_more, packets_stamped}
 
 -- what the crates below say of captures
 pub record Captures : Type 0 where
   pub none : Reads [] nothing
-  pub stay : (s t : List ℕ) (a b : format.Capture) → format.Reads s a → format.Reads (s ++ t) b → (more : List captures.Seen) × (format.packets_of b ≡ format.packets_of a ++ more)
+  pub stay : (s t : List ℕ) (a b : captures.Capture) → Reads s a → Reads (s ++ t) b → (more : List captures.Seen) × (b.packets ≡ a.packets ++ more)
 
 -- an event's stamp is below 2^62
 abbrev IsStamped : Seen → Type 0
@@ -100,7 +99,7 @@ module _ (d : Declaration) (s : State) (k : ℕ) (label : Label) (old new : Trac
       ap (slice_set (seen_by d s.traces) k) (sym is.events.1) ∙ sym then_seen in
       subst (λ (seen : List (List Seen)). AreKept seen s.kept) whole grown
 
-  then_state : count_by d (slice_set s.traces k new) ≤ 2 ^ 21 → IsState d (record s { traces = slice_set s.traces k new })
+  then_state : count_by d (slice_set s.traces k new) ≤ most_events → IsState d (record s { traces = slice_set s.traces k new })
   then_state few = record {
     labels = length-set s.traces k new ∙ lawful.state.labels;
     kinds = then_kinds;
@@ -110,15 +109,15 @@ module _ (d : Declaration) (s : State) (k : ℕ) (label : Label) (old new : Trac
   }
 
   -- whether it is accepted or refused
-  accept_lawful : (b : Bool) (text : List ℕ) (after : State) → nat_le (count_by d (slice_set s.traces k new)) (2 ^ 21) ≡ b →
+  accept_lawful : (b : Bool) (text : List ℕ) (after : State) → nat_le (count_by d (slice_set s.traces k new)) (most_events) ≡ b →
       MatchBool b ((after ≡ record s { traces = slice_set s.traces k new }) × IsAdded d s.traces (slice_set s.traces k new) (aside_of new) text) (Refuses s TooManyEvents text after) → IsLawful d after
   accept_lawful true text after is_few reply =
-      let few : count_by d (slice_set s.traces k new) ≤ 2 ^ 21 = le_true (count_by d (slice_set s.traces k new)) (2 ^ 21) is_few in
+      let few : count_by d (slice_set s.traces k new) ≤ most_events = le_true (count_by d (slice_set s.traces k new)) (most_events) is_few in
       subst (IsLawful d) (sym reply.0) (record { state = then_state few; bytes = All-set IsOfBytes s.traces k new is.bytes lawful.bytes })
   accept_lawful false text after is_many reply = subst (IsLawful d) (sym reply.1) lawful
 
   then_lawful : (text : List ℕ) (after : State) → AcceptReply d s k new text after → IsLawful d after
-  then_lawful text after reply = accept_lawful (nat_le (count_by d (slice_set s.traces k new)) (2 ^ 21)) text after refl reply
+  then_lawful text after reply = accept_lawful (nat_le (count_by d (slice_set s.traces k new)) (most_events)) text after refl reply
 
 -- ---- pieces
 all_at : {A : Type 0} (P : A → Type 0) (xs : List A) (k : ℕ) (x : A) → All P xs → slice_get xs k ≡ Some x → P x
@@ -126,7 +125,7 @@ all_at P [] k x all at = absurd cc
 all_at P (y ∷ xs) zero x all at = subst P (some_same y x at) (All-head P y xs all)
 all_at P (y ∷ xs) (suc k) x all at = all_at P xs k x (All-tail P y xs all) at
 
-row_stamped : (fields : List (List ℕ)) (row : Row) → IsRow fields row → IsStamped (seen_row row)
+row_stamped : (fields : List (List ℕ)) (row : Row) → IsRowRecord fields row → IsStamped (seen_row row)
 row_stamped fields row is = subst (λ (r : Row). r.stamp < 2 ^ 62) (sym is.is) is.stamp.below
 
 rows_stamped : (records : List (List (List ℕ))) (rows : List Row) → AreRows records rows → All IsStamped (map seen_row rows)
@@ -154,7 +153,7 @@ capture_more below d label (Captured bytes old) piece capture kind is has more r
     let was : Reads bytes old = subst (λ (kind : TraceKind). IsOfKind kind (Captured bytes old)) kind is in
     let all : AreBytes (bytes ++ piece) = All-append (λ b. b < 256) bytes piece has more in
     let seen : captures.Seen → Seen = event_of_packet d label.host in
-    let added = packets_more below.stay bytes piece old capture was reads in
+    let added = below.stay bytes piece old capture was reads in
     record {
       kind = subst (λ (kind : TraceKind). IsOfKind kind (Captured (bytes ++ piece) capture)) (sym kind) reads;
       bytes = all;
@@ -224,20 +223,10 @@ module _ (below : Captures) (d : Declaration) (s : State) (lawful : IsLawful d s
       subst (λ (t : Traces). IsLawful d (record { traces = t; kept = after.kept })) (sym same) (record { state = state; bytes = lawful.bytes })
 
   -- ---- lines
-  two_lawful : (p : ProblemLists) (first second : List ℕ) (Says : ℕ → ℕ → List ℕ → Type 0) (text : List ℕ) (after : State) → OfTwo p first second Says s text after → IsLawful d after
-  two_lawful p first second Says text after (inl (i, j, at, at', told, same)) = same_lawful after same
-  two_lawful p first second Says text after (inr (none, refused)) = same_lawful after refused.1
-
   reply_lawful : (c : Command) (found : Found) (text : List ℕ) (after : State) → FindsBytes found → Reply d s c found text after → IsLawful d after
   reply_lawful (Add label path) found text after are reply = add_lawful (label_at d label) found text after are reply
-  reply_lawful (Interval first second) found text after are reply = two_lawful (problem_of d s.traces) first second (IsIntervalLine (problem_of d s.traces)) text after reply.1
-  reply_lawful (Order first second) found text after are reply = two_lawful (problem_of d s.traces) first second (IsOrderLine (problem_of d s.traces)) text after reply.1
-  reply_lawful (Time event) found text after are reply = same_lawful after reply.1
-  reply_lawful Merge found text after are reply = same_lawful after reply.1
-  reply_lawful (Prove first second) found text after are reply = two_lawful (problem_of d s.traces) first second (IsProofText (problem_of d s.traces)) text after reply.1
   reply_lawful (Keep event) found text after are reply = keep_lawful after reply.1 (keep_kept (problem_of d s.traces) event text after.kept reply.2)
-  reply_lawful Problem found text after are reply = same_lawful after reply.1
-  reply_lawful Report found text after are reply = same_lawful after reply.1
+  reply_lawful (Ask question) found text after are reply = same_lawful after reply.1
 
   command_lawful : (files : Content) (c : Option Command) (found : Found) (text : List ℕ) (after : State) → FindsBytes found → CommandReply d files s c found text after → IsLawful d after
   command_lawful files None found text after are reply = same_lawful after reply.1.1

@@ -2,13 +2,13 @@ pub mod Elements
 pub mod SeenUnder
 pub mod Placing
 pub mod KeptEvents
+pub mod Commands
 pub mod Asking
 pub mod OneCommand
 mod LineLengths
 mod Numbers
 mod GreatestOrNone
 mod OneProof
-mod CaptureStamps
 mod LawfulStates
 mod FoundReads
 mod WholeScripts

@@ -1,11 +1,12 @@
 -- A line has one reply, but for which contradiction and which path of bounds is printed.
-use Rattle.std.proofs.Common.{◌≡◌, ◌≢◌, ◌⊎◌, inl, inr, ℕ, suc, ◌+◌, ◌-◌, ◌<◌, ◌^◌, List, [], ◌∷◌, ◌++◌, length, map, slice_get, slice_set, Option, Some, None, Bool, true, false, nat_le, MatchBool, refl, sym, ◌∙◌, ap, subst, arith}
+use Rattle.std.proofs.Common.{◌≡◌, ◌≢◌, ◌⊎◌, inl, inr, ℕ, suc, ◌+◌, ◌-◌, ◌<◌, List, [], ◌∷◌, ◌++◌, length, map, slice_get, slice_set, Option, Some, None, Bool, true, false, nat_le, MatchBool, refl, sym, ◌∙◌, ap, subst, arith}
 use Rattle.std.proofs.lemmas.List.{length-map}
 use Rattle.std.proofs.lemmas.Option.{slice_get_within}
 use Rattle.ports.specs.Files.{Content}
 use Rattle.problem_model.specs.declared.items.Event.{Event}
 use Rattle.problem_model.specs.Problem.{ProblemLists, IsProblem}
 use Rattle.problem_model.specs.Bounds.{Times, IsExecution}
+use Rattle.problem_model.specs.Limits.{most_events}
 use Rattle.problem.specs.Line.{HasEvent, IsUnknown}
 use Rattle.problem.proofs.Taking.{one_place}
 use Rattle.event_log.specs.declared.errors.LogError.{LogError}
@@ -23,18 +24,20 @@ use Rattle.decl.specs.Declaration.{Declaration, IsDeclaration}
 use Rattle.traces.specs.Seen.{Seen}
 use Rattle.traces.specs.declared.event_id.EventId.{EventId}
 use Rattle.traces.specs.Traces.{Trace, Captured, Traces, passed_of, seen_under, seen_by}
-use Rattle.traces.specs.Messages.{missing, problem_of, problem_of_seen}
+use Rattle.traces.specs.Messages.{problem_of, problem_of_seen}
 use Rattle.traces.proofs.Seen.{problem_lawful}
 use Rattle.queries.specs.Consistent.{IsConsistent}
-use Rattle.queries.specs.Replies.{HasReading, IsIntervalLine, IsOrderLine, IsProofText, IsTimeLine, Replies}
+use Rattle.queries.specs.declared.comparison.Asked.{Asked}
+use Rattle.queries.specs.declared.comparison.Asked.TheVariants as questions
+use Rattle.queries.specs.Replies.{HasReading, IsIntervalLine, IsOrderLine, IsComparisonLine, IsProofText, IsTimeLine, Replies}
 use Rattle.replies.specs.Merged.{IsMergeText}
 use Rattle.report.specs.Reports.{report_text}
 use Rattle.replies.specs.declared.outcome.Aside.{Aside}
 use Rattle.replies.specs.declared.refusal.Refusal.{Refusal}
-use Rattle.replies.specs.declared.refusal.Refusal.TheVariants.{NoCommand, UnknownLabel, UnreadFile, TooManyBytes, TooManyEvents, UnknownEvent}
+use Rattle.replies.specs.declared.refusal.Refusal.TheVariants.{NoCommand, UnknownLabel, UnreadFile, TooManyBytes, TooManyEvents}
 use Rattle.replies.specs.Refusals.{log_refusal, capture_refusal}
-use Rattle.replies.specs.Commands.{Command, Add, Interval, Order, Time, Merge, Prove, Keep, Problem, Report, Asks}
-use Rattle.replies.specs.Reply.{State, Found, Unread, Bytes, Absent, Failed, Refuses, OfTwo, OfOne, IsTimeReply, IsReport, added_line, messages_by, count_by, IsAdded, aside_of, AcceptReply, with_rows, IsLogRefusal, LogReply, bytes_of, IsCaptureRefusal, CaptureReply, KindReply, fits_label, PieceReply, label_at, AddReply, IsPlacedAt, kept_line, SlotReply, KeepReply, Reply, AreKept}
+use Rattle.replies.specs.Commands.{Command, Add, Keep, Ask, Question, Compare, Time, Merge, Prove, Problem, Report, Asks}
+use Rattle.replies.specs.Reply.{State, Found, Unread, Bytes, Absent, Failed, Refuses, OfTwo, OfOne, IsTimeReply, IsReport, IsAnswerTo, added_line, added_by, count_by, IsAdded, aside_of, AcceptReply, with_rows, IsLogRefusal, LogReply, bytes_of, IsCaptureRefusal, CaptureReply, KindReply, fits_label, PieceReply, label_at, AddReply, IsPlacedAt, kept_line, SlotReply, KeepReply, Reply, AreKept}
 use Rattle.replies.specs.Sessions.{CommandReply, LineReply}
 use Rattle.replies.specs.OneReply.{IsState, AreContradictions, MayDiffer, LineMayDiffer}
 use Rattle.replies.proofs.Elements.{some_same}
@@ -82,13 +85,12 @@ one_state p false false none none' = refl
 
 one_added : (d : Declaration) (old new : Traces) (aside : Aside) (a b : List ℕ) → IsAdded d old new aside a → IsAdded d old new aside b → a ≡ b
 one_added d old new aside a b x y =
-    let line : Bool → List ℕ = added_line (count_by d new - count_by d old) (missing (messages_by d new) (messages_by d old)) (missing (messages_by d old) (messages_by d new)) aside in
-    x.2 ∙ ap line (one_state (problem_of d new) x.0 y.0 x.1 y.1) ∙ sym y.2
+    x.2 ∙ ap (λ (consistent : Bool). added_line (added_by d old new aside consistent)) (one_state (problem_of d new) x.0 y.0 x.1 y.1) ∙ sym y.2
 
 one_acceptance : (Differ : Differences) (d : Declaration) (s : State) (k : ℕ) (trace : Trace) → AreOne Differ (AcceptReply d s k trace)
 one_acceptance Differ d s k trace =
     let traces = slice_set s.traces k trace in
-    by_test Differ (nat_le (count_by d traces) (2 ^ 21)) (λ text s'. (s' ≡ record s { traces = traces }) × IsAdded d s.traces traces (aside_of trace) text) (Refuses s TooManyEvents)
+    by_test Differ (nat_le (count_by d traces) (most_events)) (λ text s'. (s' ≡ record s { traces = traces }) × IsAdded d s.traces traces (aside_of trace) text) (Refuses s TooManyEvents)
     (λ a b after other x y. (inl (one_added d s.traces traces (aside_of trace) a b x.1 y.1), x.0 ∙ sym y.0)) (one_refusal Differ s TooManyEvents)
 
 -- ---- pieces of logs
@@ -136,16 +138,16 @@ known_both : (p : ProblemLists) (first second : List ℕ) (i j : ℕ) → HasEve
 known_both p first second i j at at' (inl none) = none i at
 known_both p first second i j at at' (inr none) = none j at'
 
-one_of_two : (p : ProblemLists) (Differ : Differences) (s : State) (first second : List ℕ) (Says : ℕ → ℕ → List ℕ → Type 0) → IsProblem p → MayContradict p Differ →
-    ((i j : ℕ) → HasEvent p i first → HasEvent p j second → AreOneText p Differ (Says i j)) → AreOne Differ (OfTwo p first second Says s)
-one_of_two p Differ s first second Says lawful may one a b after other (inl (i, j, at_i, at_j, x, stays)) (inl (k, l, at_k, at_l, y, stays')) =
+one_of_two : (p : ProblemLists) (Differ : Differences) (first second : List ℕ) (Says : ℕ → ℕ → List ℕ → Type 0) → IsProblem p → MayContradict p Differ →
+    ((i j : ℕ) → HasEvent p i first → HasEvent p j second → AreOneText p Differ (Says i j)) → (a b : List ℕ) → OfTwo p first second Says a → OfTwo p first second Says b → AreSame Differ a b
+one_of_two p Differ first second Says lawful may one a b (inl (i, j, at_i, at_j, x)) (inl (k, l, at_k, at_l, y)) =
     let from : k ≡ i = one_place p k i first lawful at_k at_i in
     let to : l ≡ j = one_place p l j second lawful at_l at_j in
     let z : Replies p (Says i j) b = subst (λ (n : ℕ). Replies p (Says n j) b) from (subst (λ (n : ℕ). Replies p (Says k n) b) to y) in
-    (one_answer p Differ (Says i j) a b may (one i j at_i at_j) x z, stays ∙ sym stays')
-one_of_two p Differ s first second Says lawful may one a b after other (inl (i, j, at_i, at_j, x, stays)) (inr (unknown, y)) = absurd (known_both p first second i j at_i at_j unknown)
-one_of_two p Differ s first second Says lawful may one a b after other (inr (unknown, x)) (inl (i, j, at_i, at_j, y, stays)) = absurd (known_both p first second i j at_i at_j unknown)
-one_of_two p Differ s first second Says lawful may one a b after other (inr (unknown, x)) (inr (unknown', y)) = one_refusal Differ s UnknownEvent a b after other x y
+    one_answer p Differ (Says i j) a b may (one i j at_i at_j) x z
+one_of_two p Differ first second Says lawful may one a b (inl (i, j, at_i, at_j, x)) (inr (unknown, y)) = absurd (known_both p first second i j at_i at_j unknown)
+one_of_two p Differ first second Says lawful may one a b (inr (unknown, x)) (inl (i, j, at_i, at_j, y)) = absurd (known_both p first second i j at_i at_j unknown)
+one_of_two p Differ first second Says lawful may one a b (inr (unknown, x)) (inr (unknown', y)) = inl (x ∙ sym y)
 
 one_of_one : (p : ProblemLists) (Differ : Differences) (event : List ℕ) (Says : ℕ → List ℕ → Type 0) → IsProblem p → ((i : ℕ) (a b : List ℕ) → Says i a → Says i b → AreSame Differ a b) →
     (a b : List ℕ) → OfOne p event Says a → OfOne p event Says b → AreSame Differ a b
@@ -264,34 +266,37 @@ module _ (below : Below) where
   one_time p (Some clock) i a b (inr (none, x)) (inl (has, y)) = absurd (none has)
   one_time p (Some clock) i a b (inr (none, x)) (inr (none', y)) = inl (x ∙ sym y)
 
+  -- ---- questions
+  one_compared : (what : Asked) (p : ProblemLists) (i j : ℕ) (a b : List ℕ) → ((x : Times) × IsExecution p x) → IsComparisonLine what p i j a → IsComparisonLine what p i j b → a ≡ b
+  one_compared questions.Interval p i j a b some is is' = below.interval p i j a b is is'
+  one_compared questions.Order p i j a b some is is' = below.order p i j a b some is is'
+
+  one_answer_to : (q : Question) (d : Declaration) (seen : List (List Seen)) (passed : List Passed) → IsProblem (problem_of_seen d seen) → (a b : List ℕ) → IsAnswerTo q d seen passed a → IsAnswerTo q d seen passed b →
+      AreSame (MayDiffer (problem_of_seen d seen) (Ask q)) a b
+  one_answer_to (Compare what first second) d seen passed lawful a b x y =
+      let p = problem_of_seen d seen in
+      one_of_two p (AreContradictions p) first second (IsComparisonLine what p) lawful (λ one two are. are) (λ i j at at' one two some is is'. inl (one_compared what p i j one two some is is')) a b x y
+  one_answer_to (Time event) d seen passed lawful a b x y =
+      let p = problem_of_seen d seen in
+      one_of_one p (AreContradictions p) event (IsTimeReply p d.source) lawful (one_time p d.source) a b x y
+  one_answer_to Merge d seen passed lawful a b x y =
+      let p = problem_of_seen d seen in
+      one_answer p (AreContradictions p) (IsMergeText d seen) a b (λ one two are. are) (λ one two some is is'. inl (below.merge d seen one two is is')) x y
+  one_answer_to (Prove first second) d seen passed lawful a b x y =
+      let p = problem_of_seen d seen in
+      one_of_two p (MayDiffer p (Ask (Prove first second))) first second (IsProofText p) lawful (λ one two are. inl are)
+      (λ i j at at' one two some is is'. inr (inr (i, j, at, at', some, proofs_one p i j one two lawful (event_within p i first at) is is'))) a b x y
+  one_answer_to Problem d seen passed lawful a b x y = inl (x ∙ sym y)
+  one_answer_to Report d seen passed lawful a b x y = inl (one_report d seen passed a b x y)
+
   -- ---- lines
   one_reply : (d : Declaration) (s : State) (c : Command) (found : Found) → IsProblem (problem_of d s.traces) → AreKept (seen_by d s.traces) s.kept →
       AreOne (MayDiffer (problem_of d s.traces) c) (Reply d s c found)
   one_reply d s (Add label path) found lawful kept = one_addition (λ a b. ⊥) d s (label_at d label) found
-  one_reply d s (Interval first second) found lawful kept = λ a b after other x y.
-      let p = problem_of d s.traces in
-      one_of_two p (AreContradictions p) s first second (IsIntervalLine p) lawful (λ one two are. are)
-      (λ i j at at' one two some is is'. inl (below.interval p i j one two is is')) a b after other x.1 y.1
-  one_reply d s (Order first second) found lawful kept = λ a b after other x y.
-      let p = problem_of d s.traces in
-      one_of_two p (AreContradictions p) s first second (IsOrderLine p) lawful (λ one two are. are)
-      (λ i j at at' one two some is is'. inl (below.order p i j one two some is is')) a b after other x.1 y.1
-  one_reply d s (Time event) found lawful kept = λ a b after other x y.
-      let p = problem_of d s.traces in
-      (one_of_one p (AreContradictions p) event (IsTimeReply p d.source) lawful (one_time p d.source) a b x.2 y.2, x.1 ∙ sym y.1)
-  one_reply d s Merge found lawful kept = λ a b after other x y.
-      let p = problem_of d s.traces in
-      let seen = seen_by d s.traces in
-      (one_answer p (AreContradictions p) (IsMergeText d seen) a b (λ one two are. are) (λ one two some is is'. inl (below.merge d seen one two is is')) x.2 y.2, x.1 ∙ sym y.1)
-  one_reply d s (Prove first second) found lawful kept = λ a b after other x y.
-      let p = problem_of d s.traces in
-      one_of_two p (MayDiffer p (Prove first second)) s first second (IsProofText p) lawful (λ one two are. inl are)
-      (λ i j at at' one two some is is'. inr (inr (i, j, at, at', some, proofs_one p i j one two lawful (event_within p i first at) is is'))) a b after other x.1 y.1
   one_reply d s (Keep event) found lawful kept = λ a b after other x y.
       let one = one_keeping (problem_of d s.traces) (seen_by d s.traces) s.kept event lawful kept a b after.kept other.kept x.2 y.2 in
       (inl one.0, one_state_of after other (x.1 ∙ sym y.1) one.1)
-  one_reply d s Problem found lawful kept = λ a b after other x y. (inl (x.2 ∙ sym y.2), x.1 ∙ sym y.1)
-  one_reply d s Report found lawful kept = λ a b after other x y. (inl (one_report d (seen_by d s.traces) (map passed_of s.traces) a b x.2 y.2), x.1 ∙ sym y.1)
+  one_reply d s (Ask question) found lawful kept = λ a b after other x y. (one_answer_to question d (seen_by d s.traces) (map passed_of s.traces) lawful a b x.2 y.2, x.1 ∙ sym y.1)
 
   one_of_command : (d : Declaration) (files : Content) (s : State) (line : List ℕ) (c : Option Command) (found : Found) → IsProblem (problem_of d s.traces) → AreKept (seen_by d s.traces) s.kept →
       Asks line c → AreOne (LineMayDiffer (problem_of d s.traces) line) (CommandReply d files s c found)

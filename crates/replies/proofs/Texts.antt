@@ -25,7 +25,7 @@ use Rattle.solver.specs.Solution.{IsSolutionBy}
 use Rattle.queries.specs.Replies.{Replies}
 use Rattle.queries.proofs.Solutions.{stands}
 use Rattle.replies.specs.Merged.{keys_from, IsMergeText}
-use Rattle.replies.specs.Writing.{AreValued, IsTextBy, count_line, lines_of, node_at, times_by}
+use Rattle.replies.specs.Writing.{AreValued, IsTextBy, count_line, lines_merged, listed_node, times_by}
 use Rattle.replies.proofs.Agreeing.{Agree, keys_agree, lines_agree}
 use Rattle.replies.proofs.OneOrder.{order_one}
 
@@ -47,7 +47,7 @@ one_merge d seen a b is is' =
     subst (λ (n : ℕ). Agree n is.times is'.times) (event_total d seen) (earliest_agree (problem_of_seen d seen) is.times is'.times is.earliest is'.earliest) in
     let sorted : IsMergeOrder (keys_from is.times 0 events) is'.order = subst (λ (keys : List MergeKey). IsMergeOrder keys is'.order) (sym (keys_agree is.times is'.times events agree)) is'.sorted in
     let order : is.order ≡ is'.order = order_one (keys_from is.times 0 events) is.order is'.order is.sorted sorted in
-    is.is ∙ ap (λ (ks : List ℕ). count_line (length events) ++ lines_of d is.times events ks) order
+    is.is ∙ ap (λ (ks : List ℕ). count_line (length events) ++ lines_merged d is.times events ks) order
     ∙ ap (λ (lines : List ℕ). count_line (length events) ++ lines) (lines_agree d is.times is'.times events is'.order agree) ∙ sym is'.is
 
 -- ---- the merge that is written
@@ -62,23 +62,23 @@ module _ (d : Declaration) (seen : List (List Seen)) (l : Listed) (s : SolverLis
   as_many = events_count l p readings s.graph (stands l p s solution)
 
   -- the listing gives a node for the event at each place
-  node_there : (k : ℕ) → k < length l.events → slice_get (listed_nodes l) k ≡ Some (node_at l k)
+  node_there : (k : ℕ) → k < length l.events → slice_get (listed_nodes l) k ≡ Some (listed_node l k)
   node_there k inside = event_node l k (get_or l.events k (0, 0)) (slice_get-get_or l.events k (0, 0) inside)
 
   -- each event has a value
   pub valued : (count : ℕ) → length (events_of seen) ≡ count → (values : List ℤ) → All (λ k. k < length values) (listed_nodes l) → AreValued l count values
   valued count total values all = record {
     as_many = as_many ∙ event_total d seen ∙ total;
-    valued = λ k inside. all_at (λ n. n < length values) (listed_nodes l) k (node_at l k) all (node_there k (let many = as_many ∙ event_total d seen ∙ total in omega (arith, inside, many)));
+    valued = λ k inside. all_at (λ n. n < length values) (listed_nodes l) k (listed_node l k) all (node_there k (let many = as_many ∙ event_total d seen ∙ total in omega (arith, inside, many)));
   }
 
   module _ (values : List ℤ) (x : Times) (is : map (at values) (listed_nodes l) ≡ map x (nodes_of (problem_of_seen d seen) (all_readings (problem_of_seen d seen).events))) where
     -- the values of the events' nodes are their times
     values_agree : Agree (length (problem_of_seen d seen).events) (times_by l values) x
     values_agree k inside =
-        let by_number : slice_get (map (at values) (listed_nodes l)) k ≡ Some (at values (node_at l k)) = map_at (at values) (listed_nodes l) k (node_at l k) (node_there k (let many = as_many in omega (arith, inside, many))) in
+        let by_number : slice_get (map (at values) (listed_nodes l)) k ≡ Some (at values (listed_node l k)) = map_at (at values) (listed_nodes l) k (listed_node l k) (node_there k (let many = as_many in omega (arith, inside, many))) in
         let by_node : slice_get (map x (nodes_of p readings)) k ≡ Some (x (nodes.Event k)) = map_at x (nodes_of p readings) k (nodes.Event k) (event_stands p readings k inside) in
-        same_Some (at values (node_at l k)) (x (nodes.Event k)) (sym by_number ∙ ap (λ (xs : List ℤ). slice_get xs k) is ∙ by_node)
+        same_Some (at values (listed_node l k)) (x (nodes.Event k)) (sym by_number ∙ ap (λ (xs : List ℤ). slice_get xs k) is ∙ by_node)
 
     -- what is merged by the values of the events' nodes is the reply
     pub merge_shows : IsEarliestExecution (problem_of_seen d seen) x → (text : List ℕ)

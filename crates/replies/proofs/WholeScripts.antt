@@ -7,7 +7,7 @@ use Rattle.traces.specs.Messages.{problem_of}
 use Rattle.replies.specs.Reply.{State, Found}
 use Rattle.replies.specs.Sessions.{LineReply, Session}
 use Rattle.replies.specs.OneReply.{IsState, AreOneReply}
-use Rattle.replies.specs.Lawful.{FindsBytes, IsLawful, IsBehind, AreOneOutput}
+use Rattle.replies.specs.Lawful.{FindsBytes, IsLawful, IsStateBehind, AreOneOutput}
 use Rattle.replies.proofs.Elements.{some_same}
 
 -- what is true of each line of a session over this declaration and these files
@@ -57,7 +57,7 @@ module _ (d : Declaration) (files : Content) (each : OfLines d files) where
   -- the replies to line k, and what the session has before it
   abbrev AreOneAt : State → List (List ℕ) → List Found → List (List ℕ) → List (List ℕ) → ℕ → Type 0
   AreOneAt s lines founds a b k = (line text other : List ℕ) → slice_get lines k ≡ Some line → slice_get a k ≡ Some text → slice_get b k ≡ Some other →
-      (present : State) × IsBehind d files s lines founds a k present × IsBehind d files s lines founds b k present × IsLawful d present × AreOneReply (problem_of d present.traces) line text other
+      (present : State) × IsStateBehind d files s lines founds a k present × IsStateBehind d files s lines founds b k present × IsLawful d present × AreOneReply (problem_of d present.traces) line text other
 
   one_at : (k : ℕ) (s : State) (lines : List (List ℕ)) (founds : List Found) (a b : List (List ℕ)) (after other : State) → IsLawful d s → All FindsBytes founds →
       Session d files s lines founds a after → Session d files s lines founds b other → AreOneAt s lines founds a b k

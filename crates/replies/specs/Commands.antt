@@ -1,36 +1,49 @@
--- The commands that a line of a script may spell.
-use Rattle.std.specs.Prelude.{◌≡◌, ℕ, ◌<◌, List, [], ◌∷◌, length, Option, Some, None, All, codes, ⊤}
+-- The commands that a line of a script may spell, and those of the code.
+use Rattle.std.specs.Prelude.{◌≡◌, ◌⊎◌, ℕ, ◌<◌, List, [], ◌∷◌, length, Option, Some, None, All, codes, ⊤}
 use Rattle.std.specs.Int.{IsInRange}
 use Rattle.line_format.specs.Words.{words}
+use Rattle.queries.specs.declared.comparison.Asked.{Asked}
+use Rattle.queries.specs.declared.comparison.Asked.TheVariants as asked
+use Rattle.replies.specs.declared.command.Command as parsed
+use Rattle.replies.specs.declared.command.Command.TheVariants as commands
+use Rattle.replies.specs.declared.command.Question as asking
+use Rattle.replies.specs.declared.command.Question.TheVariants as questions
 
--- a command with its words: a label and a path, or the names of one or two events
+-- a question about all that was added, with the names of the events that it is about
+pub data Question : Type 0 where
+  Compare : Asked → List ℕ → List ℕ → Question
+  Time : List ℕ → Question
+  Merge : Question
+  Prove : List ℕ → List ℕ → Question
+  Problem : Question
+  Report : Question
+
+-- a command with its words: a label and a path, the name of an event, or a question
 pub data Command : Type 0 where
   Add : List ℕ → List ℕ → Command
-  Interval : List ℕ → List ℕ → Command
-  Order : List ℕ → List ℕ → Command
-  Time : List ℕ → Command
-  Merge : Command
-  Prove : List ℕ → List ℕ → Command
   Keep : List ℕ → Command
-  Problem : Command
-  Report : Command
+  Ask : Question → Command
 
 -- some bytes from 33 to 126: they print, without a space
 pub record IsWord (w : List ℕ) : Type 0 where
   pub some : 0 < length w
   pub visible : All (λ b. IsInRange 33 126 b) w
 
+-- the word of what is asked of two events
+abbrev pub asked_word : Asked → List ℕ
+asked_word asked.Interval = codes "interval"
+asked_word asked.Order = codes "order"
+
 -- the words of a command
 abbrev pub command_words : Command → List (List ℕ)
 command_words (Add label path) = codes "add" ∷ label ∷ path ∷ []
-command_words (Interval first second) = codes "interval" ∷ first ∷ second ∷ []
-command_words (Order first second) = codes "order" ∷ first ∷ second ∷ []
-command_words (Time event) = codes "time" ∷ event ∷ []
-command_words Merge = codes "merge" ∷ []
-command_words (Prove first second) = codes "prove" ∷ first ∷ second ∷ []
 command_words (Keep event) = codes "keep" ∷ event ∷ []
-command_words Problem = codes "problem" ∷ []
-command_words Report = codes "report" ∷ []
+command_words (Ask (Compare what first second)) = asked_word what ∷ first ∷ second ∷ []
+command_words (Ask (Time event)) = codes "time" ∷ event ∷ []
+command_words (Ask Merge) = codes "merge" ∷ []
+command_words (Ask (Prove first second)) = codes "prove" ∷ first ∷ second ∷ []
+command_words (Ask Problem) = codes "problem" ∷ []
+command_words (Ask Report) = codes "report" ∷ []
 
 -- the line spells this command, or none
 abbrev pub Asks : List ℕ → Option Command → Type 0
@@ -45,15 +58,39 @@ HasWords ws None = (c : Command) → All IsWord ws → ws ≡ command_words c �
 -- the command may be answered by `Memory`
 abbrev pub TakesMemory : Command → Type 0
 TakesMemory (Add label path) = ⊤
-TakesMemory (Interval first second) = ⊥
-TakesMemory (Order first second) = ⊥
-TakesMemory (Time event) = ⊥
-TakesMemory Merge = ⊤
-TakesMemory (Prove first second) = ⊥
 TakesMemory (Keep event) = ⊤
-TakesMemory Problem = ⊥
-TakesMemory Report = ⊤
+TakesMemory (Ask (Compare what first second)) = ⊥
+TakesMemory (Ask (Time event)) = ⊥
+TakesMemory (Ask Merge) = ⊤
+TakesMemory (Ask (Prove first second)) = ⊥
+TakesMemory (Ask Problem) = ⊥
+TakesMemory (Ask Report) = ⊤
 
 -- the line spells a command that may be answered by `Memory`
 abbrev pub AsksForMemory : List ℕ → Type 0
 AsksForMemory line = (c : Command) × Asks line (Some c) × TakesMemory c
+
+-- what answers the question is read off values, and off rows of events that have them
+abbrev pub IsReadOff : (List ℕ → Type 0) → Question → Type 0
+IsReadOff HasRows (Compare what first second) = HasRows first ⊎ HasRows second
+IsReadOff HasRows (Time event) = ⊤
+IsReadOff HasRows Merge = ⊤
+IsReadOff HasRows (Prove first second) = HasRows first
+IsReadOff HasRows Problem = ⊤
+IsReadOff HasRows Report = ⊤
+
+-- ---- the code
+-- a question of the code, by its words
+abbrev pub question_seen : asking.Question → Question
+question_seen (questions.Compare what first second) = Compare what first.now second.now
+question_seen (questions.Time event) = Time event.now
+question_seen questions.Merge = Merge
+question_seen (questions.Prove first second) = Prove first.now second.now
+question_seen questions.Problem = Problem
+question_seen questions.Report = Report
+
+-- a command of the code, by its words
+abbrev pub command_seen : parsed.Command → Command
+command_seen (commands.Add label path) = Add label.now path.now
+command_seen (commands.Keep event) = Keep event.now
+command_seen (commands.Ask question) = Ask (question_seen question)

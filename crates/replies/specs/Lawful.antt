@@ -41,15 +41,15 @@ NoneFailed founds = All (λ (f : Found). is_failed f ≡ false) founds
 
 -- ---- outputs of a script
 -- what a session has behind the first k lines of a script
-abbrev pub IsBehind : Declaration → Content → State → List (List ℕ) → List Found → List (List ℕ) → ℕ → State → Type 0
-IsBehind d files s lines founds texts k present = Session d files s (take k lines) (take k founds) (take k texts) present
+abbrev pub IsStateBehind : Declaration → Content → State → List (List ℕ) → List Found → List (List ℕ) → ℕ → State → Type 0
+IsStateBehind d files s lines founds texts k present = Session d files s (take k lines) (take k founds) (take k texts) present
 
 -- two outputs of one script: each has a text for each line, behind as many lines the session has one lawful state, and the
 -- next replies are one
 pub record AreOneOutput (d : Declaration) (files : Content) (s : State) (lines : List (List ℕ)) (founds : List Found) (a b : List (List ℕ)) : Type 0 where
   pub each : length a ≡ length lines
   pub each_other : length b ≡ length lines
-  pub one_state : (k : ℕ) (present other : State) → IsBehind d files s lines founds a k present → IsBehind d files s lines founds b k other → present ≡ other
+  pub one_state : (k : ℕ) (present other : State) → IsStateBehind d files s lines founds a k present → IsStateBehind d files s lines founds b k other → present ≡ other
   pub one_reply : (k : ℕ) (line text other : List ℕ) → slice_get lines k ≡ Some line → slice_get a k ≡ Some text → slice_get b k ≡ Some other
-      → (present : State) × IsBehind d files s lines founds a k present × IsBehind d files s lines founds b k present × IsLawful d present
+      → (present : State) × IsStateBehind d files s lines founds a k present × IsStateBehind d files s lines founds b k present × IsLawful d present
       × AreOneReply (problem_of d present.traces) line text other

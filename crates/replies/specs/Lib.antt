@@ -1,5 +1,4 @@
 pub mod Commands
-pub mod CommandSeen
 pub mod Refusals
 pub mod Reply
 pub mod Outcomes

@@ -1,14 +1,15 @@
 -- When two replies are one.
-use Rattle.std.specs.Prelude.{◌≡◌, ◌⊎◌, ℕ, ◌^◌, ◌≤◌, List, length, slice_get, Some}
+use Rattle.std.specs.Prelude.{◌≡◌, ◌⊎◌, ℕ, ◌≤◌, List, length, slice_get, Some}
 use Rattle.problem_model.specs.Problem.{ProblemLists}
 use Rattle.problem_model.specs.Bounds.{Times, IsExecution}
+use Rattle.problem_model.specs.Limits.{most_events}
 use Rattle.problem.specs.Line.{HasEvent}
 use Rattle.decl.specs.declared.items.Label.{Label}
 use Rattle.decl.specs.Declaration.{Declaration}
 use Rattle.traces.specs.Traces.{Trace, IsOfKind, seen_by}
 use Rattle.traces.specs.Making.{StampsFit}
 use Rattle.queries.specs.Replies.{IsContradictionText}
-use Rattle.replies.specs.Commands.{Command, Add, Interval, Order, Time, Merge, Prove, Keep, Problem, Report, Asks}
+use Rattle.replies.specs.Commands.{Command, Add, Keep, Ask, Compare, Time, Merge, Prove, Problem, Report, Asks}
 use Rattle.replies.specs.Reply.{State, count_by, AreKept}
 use Rattle.replies.specs.OneProof.{AreOneProof}
 
@@ -17,7 +18,7 @@ use Rattle.replies.specs.OneProof.{AreOneProof}
 pub record IsState (d : Declaration) (s : State) : Type 0 where
   pub labels : length s.traces ≡ length d.labels
   pub kinds : (k : ℕ) (label : Label) (trace : Trace) → slice_get d.labels k ≡ Some label → slice_get s.traces k ≡ Some trace → IsOfKind label.kind trace
-  pub few : count_by d s.traces ≤ 2 ^ 21
+  pub few : count_by d s.traces ≤ most_events
   pub stamps : StampsFit (seen_by d s.traces)
   pub kept : AreKept (seen_by d s.traces) s.kept
 
@@ -34,14 +35,13 @@ AreProofs p first second a b = (i : ℕ) × (j : ℕ) × HasEvent p i first × H
 -- one exists, a proof has certificates with other paths
 abbrev pub MayDiffer : ProblemLists → Command → List ℕ → List ℕ → Type 0
 MayDiffer p (Add label path) a b = ⊥
-MayDiffer p (Interval first second) a b = AreContradictions p a b
-MayDiffer p (Order first second) a b = AreContradictions p a b
-MayDiffer p (Time event) a b = AreContradictions p a b
-MayDiffer p Merge a b = AreContradictions p a b
-MayDiffer p (Prove first second) a b = AreContradictions p a b ⊎ AreProofs p first second a b
 MayDiffer p (Keep event) a b = ⊥
-MayDiffer p Problem a b = ⊥
-MayDiffer p Report a b = ⊥
+MayDiffer p (Ask (Compare what first second)) a b = AreContradictions p a b
+MayDiffer p (Ask (Time event)) a b = AreContradictions p a b
+MayDiffer p (Ask Merge) a b = AreContradictions p a b
+MayDiffer p (Ask (Prove first second)) a b = AreContradictions p a b ⊎ AreProofs p first second a b
+MayDiffer p (Ask Problem) a b = ⊥
+MayDiffer p (Ask Report) a b = ⊥
 
 -- how two replies to a line may differ: as those to the command that it spells
 abbrev pub LineMayDiffer : ProblemLists → List ℕ → List ℕ → List ℕ → Type 0

@@ -7,10 +7,10 @@ use Rattle.replies.specs.Reply.{added_line, kept_line}
 
 -- the line that tells it
 abbrev pub outcome_line : Outcome → List ℕ
-outcome_line (Added a) = added_line a.events a.messages a.withdrawn a.aside a.consistent
+outcome_line (Added a) = added_line a
 outcome_line (Kept slot) = kept_line slot
 outcome_line (Refused r) = refusal_line r
 
 -- the text is that line
-abbrev pub IsLineOf : Outcome → List ℕ → Type 0
-IsLineOf outcome text = text ≡ outcome_line outcome
+abbrev pub IsOutcomeLine : Outcome → List ℕ → Type 0
+IsOutcomeLine outcome text = text ≡ outcome_line outcome

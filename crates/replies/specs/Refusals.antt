@@ -10,21 +10,21 @@ use Rattle.replies.specs.declared.refusal.Refusal.{Refusal}
 use Rattle.replies.specs.declared.refusal.Refusal.TheVariants.{NoCommand, UnknownLabel, UnreadFile, TooManyBytes, CaptureMagic, CaptureVersion, CaptureHeader, CaptureRecord, CaptureBlock, LogRow, TooManyEvents, UnknownEvent, NoSourceTime, EightAreKept}
 
 -- the number of a refusal
-abbrev pub number_of : Refusal → ℕ
-number_of NoCommand = 20
-number_of UnknownLabel = 21
-number_of UnreadFile = 22
-number_of TooManyBytes = 23
-number_of CaptureMagic = 24
-number_of CaptureVersion = 24
-number_of (CaptureHeader place) = 25
-number_of (CaptureRecord place) = 25
-number_of (CaptureBlock place) = 31
-number_of (LogRow row lack) = 26
-number_of TooManyEvents = 27
-number_of UnknownEvent = 28
-number_of NoSourceTime = 29
-number_of EightAreKept = 30
+abbrev pub refusal_number : Refusal → ℕ
+refusal_number NoCommand = 20
+refusal_number UnknownLabel = 21
+refusal_number UnreadFile = 22
+refusal_number TooManyBytes = 23
+refusal_number CaptureMagic = 24
+refusal_number CaptureVersion = 24
+refusal_number (CaptureHeader place) = 25
+refusal_number (CaptureRecord place) = 25
+refusal_number (CaptureBlock place) = 31
+refusal_number (LogRow row lack) = 26
+refusal_number TooManyEvents = 27
+refusal_number UnknownEvent = 28
+refusal_number NoSourceTime = 29
+refusal_number EightAreKept = 30
 
 -- the words that say where and why
 abbrev pub details : Refusal → List (List ℕ)
@@ -45,7 +45,7 @@ details EightAreKept = []
 
 -- the line of a refusal
 abbrev pub refusal_line : Refusal → List ℕ
-refusal_line r = line_of (codes "refused" ∷ decimal_of (number_of r) ∷ details r)
+refusal_line r = line_of (codes "refused" ∷ decimal_of (refusal_number r) ∷ details r)
 
 -- the refusal of a log with this fault, by its row and what it lacks; none where memory ran out
 abbrev pub log_refusal : LogError → Option Refusal

@@ -5,6 +5,7 @@ use Rattle.atto.specs.Decimal.{decimal_of}
 use Rattle.line_format.specs.Words.{line_of}
 use Rattle.problem_model.specs.Problem.{ProblemLists}
 use Rattle.problem_model.specs.ProblemText.{problem_text}
+use Rattle.problem_model.specs.Limits.{most_events}
 use Rattle.problem.specs.Line.{HasEvent, IsUnknown}
 use Rattle.event_log.specs.declared.errors.LogError.{LogError}
 use Rattle.event_log.specs.declared.row.Row.{Row}
@@ -19,17 +20,18 @@ use Rattle.decl.specs.Declaration.{Declaration}
 use Rattle.traces.specs.Seen.{Seen}
 use Rattle.traces.specs.declared.event_id.EventId.{EventId}
 use Rattle.traces.specs.declared.event_id.Couple.{Couple}
-use Rattle.traces.specs.Traces.{Trace, Captured, Logged, Traces, Placed, passed_of, seen_by, size_of, events_of, event_count}
+use Rattle.traces.specs.Traces.{Trace, Captured, Logged, Traces, Placed, passed_of, seen_by, bytes_accepted, events_of, event_count}
 use Rattle.traces.specs.Messages.{messages_of, missing, problem_of, problem_of_seen}
 use Rattle.queries.specs.Consistent.{IsConsistent}
-use Rattle.queries.specs.Replies.{HasReading, IsIntervalLine, IsOrderLine, IsProofText, IsTimeLine, Replies}
+use Rattle.queries.specs.Replies.{HasReading, IsComparisonLine, IsProofText, IsTimeLine, Replies}
 use Rattle.replies.specs.Merged.{IsMergeText}
 use Rattle.report.specs.Reports.{report_text}
+use Rattle.replies.specs.declared.outcome.Added.{Added}
 use Rattle.replies.specs.declared.outcome.Aside.{Aside}
 use Rattle.replies.specs.declared.refusal.Refusal.{Refusal}
 use Rattle.replies.specs.declared.refusal.Refusal.TheVariants.{UnknownLabel, UnreadFile, TooManyBytes, TooManyEvents, UnknownEvent, NoSourceTime, EightAreKept}
 use Rattle.replies.specs.Refusals.{refusal_line, log_refusal, capture_refusal}
-use Rattle.replies.specs.Commands.{Command, Add, Interval, Order, Time, Merge, Prove, Keep, Problem, Report}
+use Rattle.replies.specs.Commands.{Command, Add, Keep, Ask, Question, Compare, Time, Merge, Prove, Problem, Report}
 
 -- what a session has: the traces, and the events that are kept
 pub record State : Type 0 where
@@ -53,11 +55,11 @@ abbrev pub Refuses : State → Refusal → List ℕ → State → Type 0
 Refuses s r text s' = (text ≡ refusal_line r) × (s' ≡ s)
 
 -- ---- questions
--- two events are asked about by their names
-abbrev pub OfTwo : ProblemLists → List ℕ → List ℕ → (ℕ → ℕ → List ℕ → Type 0) → State → List ℕ → State → Type 0
-OfTwo p first second Says s text s' =
-    ((i : ℕ) × (j : ℕ) × HasEvent p i first × HasEvent p j second × Replies p (Says i j) text × (s' ≡ s))
-    ⊎ ((IsUnknown p first ⊎ IsUnknown p second) × Refuses s UnknownEvent text s')
+-- what is said of two events by their names, or the refusal where one is unknown
+abbrev pub OfTwo : ProblemLists → List ℕ → List ℕ → (ℕ → ℕ → List ℕ → Type 0) → List ℕ → Type 0
+OfTwo p first second Says text =
+    ((i : ℕ) × (j : ℕ) × HasEvent p i first × HasEvent p j second × Replies p (Says i j) text)
+    ⊎ ((IsUnknown p first ⊎ IsUnknown p second) × (text ≡ refusal_line UnknownEvent))
 
 -- what is said of an event by its name, or the refusal where none has it
 abbrev pub OfOne : ProblemLists → List ℕ → (ℕ → List ℕ → Type 0) → List ℕ → Type 0
@@ -74,6 +76,15 @@ IsTimeReply p (Some clock) event text = (HasReading p clock × Replies p (IsTime
 abbrev pub IsReport : Declaration → List (List Seen) → List Passed → List ℕ → Type 0
 IsReport d seen passed text = (b : Bool) × IsConsistent (problem_of_seen d seen) b × (text ≡ report_text d seen passed b)
 
+-- what answers a question about these events of all labels, and about the packets that were passed over under each
+abbrev pub IsAnswerTo : Question → Declaration → List (List Seen) → List Passed → List ℕ → Type 0
+IsAnswerTo (Compare what first second) d seen passed = let p = problem_of_seen d seen in OfTwo p first second (IsComparisonLine what p)
+IsAnswerTo (Time event) d seen passed = let p = problem_of_seen d seen in OfOne p event (IsTimeReply p d.source)
+IsAnswerTo Merge d seen passed = Replies (problem_of_seen d seen) (IsMergeText d seen)
+IsAnswerTo (Prove first second) d seen passed = let p = problem_of_seen d seen in OfTwo p first second (IsProofText p)
+IsAnswerTo Problem d seen passed = λ text. text ≡ problem_text (problem_of_seen d seen)
+IsAnswerTo Report d seen passed = IsReport d seen passed
+
 -- ---- additions
 -- whether there is an execution, as a word
 abbrev pub state_word : Bool → List ℕ
@@ -85,12 +96,11 @@ abbrev pub passed_words : ℕ → List (List ℕ)
 passed_words zero = []
 passed_words (suc n) = codes "passed" ∷ decimal_of (suc n) ∷ []
 
--- the line of an addition: new events, new messages, messages that are none any more, bytes that wait, and packets that were
--- passed over
-abbrev pub added_line : ℕ → ℕ → ℕ → Aside → Bool → List ℕ
-added_line events messages withdrawn aside consistent =
-    line_of (codes "added" ∷ codes "events" ∷ decimal_of events ∷ codes "messages" ∷ decimal_of messages ∷ codes "withdrawn" ∷ decimal_of withdrawn
-    ∷ codes "pending" ∷ decimal_of aside.pending ∷ (passed_words aside.passed ++ state_word consistent ∷ []))
+-- the line of what an addition changed; how many packets were passed over is said where any were
+abbrev pub added_line : Added → List ℕ
+added_line a =
+    line_of (codes "added" ∷ codes "events" ∷ decimal_of a.events ∷ codes "messages" ∷ decimal_of a.messages ∷ codes "withdrawn" ∷ decimal_of a.withdrawn
+    ∷ codes "pending" ∷ decimal_of a.aside.pending ∷ (passed_words a.aside.passed ++ state_word a.consistent ∷ []))
 
 -- the messages of traces
 abbrev pub messages_by : Declaration → Traces → List Couple
@@ -100,11 +110,20 @@ messages_by d traces = messages_of (events_of (seen_by d traces))
 abbrev pub count_by : Declaration → Traces → ℕ
 count_by d traces = event_count (seen_by d traces)
 
--- the line of an addition by the traces before and after, and by what under its label gives no events
+-- what an addition changed, by the traces before and after, by what under its label gives no events, and by whether there is an
+-- execution
+abbrev pub added_by : Declaration → Traces → Traces → Aside → Bool → Added
+added_by d old new aside consistent = record {
+  events = count_by d new - count_by d old;
+  messages = missing (messages_by d new) (messages_by d old);
+  withdrawn = missing (messages_by d old) (messages_by d new);
+  aside = aside;
+  consistent = consistent;
+}
+
+-- the line of an addition
 abbrev pub IsAdded : Declaration → Traces → Traces → Aside → List ℕ → Type 0
-IsAdded d old new aside text =
-    (b : Bool) × IsConsistent (problem_of d new) b
-    × (text ≡ added_line (count_by d new - count_by d old) (missing (messages_by d new) (messages_by d old)) (missing (messages_by d old) (messages_by d new)) aside b)
+IsAdded d old new aside text = (b : Bool) × IsConsistent (problem_of d new) b × (text ≡ added_line (added_by d old new aside b))
 
 -- how many bytes under a label wait for the rest of their record or header; of a log none do
 abbrev pub pending_of : Trace → ℕ
@@ -119,7 +138,7 @@ aside_of trace = record { pending = pending_of trace; passed = passed_count (pas
 abbrev pub AcceptReply : Declaration → State → ℕ → Trace → List ℕ → State → Type 0
 AcceptReply d s k trace text s' =
     let traces = slice_set s.traces k trace in
-    MatchBool (nat_le (count_by d traces) (2 ^ 21))
+    MatchBool (nat_le (count_by d traces) (most_events))
     ((s' ≡ record s { traces = traces }) × IsAdded d s.traces traces (aside_of trace) text)
     (Refuses s TooManyEvents text s')
 
@@ -161,9 +180,17 @@ abbrev pub KindReply : Declaration → State → ℕ → Trace → TraceKind →
 KindReply d s k trace Capture bytes text s' = CaptureReply d s k trace bytes text s'
 KindReply d s k trace Log bytes text s' = LogReply d s k trace bytes text s'
 
+-- the most bytes of a piece, which is held in memory whole: 2^28
+abbrev pub most_piece : ℕ
+most_piece = 2 ^ 28
+
+-- the most bytes that are accepted under a label: 2^30
+abbrev pub most_of_label : ℕ
+most_of_label = 2 ^ 30
+
 -- whether a piece is not too long, by itself and with what its label has
 abbrev pub fits_label : Trace → List ℕ → Bool
-fits_label trace bytes = nat_le (length bytes) (2 ^ 28) && nat_le (size_of trace + length bytes) (2 ^ 30)
+fits_label trace bytes = nat_le (length bytes) most_piece && nat_le (bytes_accepted trace + length bytes) most_of_label
 
 -- a piece for the label at a place
 abbrev pub PieceReply : Declaration → State → ℕ → Option Label → Option Trace → List ℕ → List ℕ → State → Type 0
@@ -228,19 +255,5 @@ KeepReply p seen kept name text kept' =
 -- the texts that are replies, and what the session then has
 abbrev pub Reply : Declaration → State → Command → Found → List ℕ → State → Type 0
 Reply d s (Add label path) found text s' = AddReply d s (label_at d label) found text s'
-Reply d s (Interval first second) found text s' =
-    let p = problem_of d s.traces in
-    (found ≡ Unread) × OfTwo p first second (IsIntervalLine p) s text s'
-Reply d s (Order first second) found text s' =
-    let p = problem_of d s.traces in
-    (found ≡ Unread) × OfTwo p first second (IsOrderLine p) s text s'
-Reply d s (Time event) found text s' =
-    let p = problem_of d s.traces in
-    (found ≡ Unread) × (s' ≡ s) × OfOne p event (IsTimeReply p d.source) text
-Reply d s Merge found text s' = (found ≡ Unread) × (s' ≡ s) × Replies (problem_of d s.traces) (IsMergeText d (seen_by d s.traces)) text
-Reply d s (Prove first second) found text s' =
-    let p = problem_of d s.traces in
-    (found ≡ Unread) × OfTwo p first second (IsProofText p) s text s'
 Reply d s (Keep event) found text s' = (found ≡ Unread) × (s'.traces ≡ s.traces) × KeepReply (problem_of d s.traces) (seen_by d s.traces) s.kept event text s'.kept
-Reply d s Problem found text s' = (found ≡ Unread) × (s' ≡ s) × (text ≡ problem_text (problem_of d s.traces))
-Reply d s Report found text s' = (found ≡ Unread) × (s' ≡ s) × IsReport d (seen_by d s.traces) (map passed_of s.traces) text
+Reply d s (Ask question) found text s' = (found ≡ Unread) × (s' ≡ s) × IsAnswerTo question d (seen_by d s.traces) (map passed_of s.traces) text

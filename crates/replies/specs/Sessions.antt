@@ -5,7 +5,7 @@ use Rattle.decl.specs.declared.items.Label.{Label}
 use Rattle.decl.specs.Declaration.{Declaration}
 use Rattle.traces.specs.Traces.{nothing_for}
 use Rattle.replies.specs.declared.refusal.Refusal.TheVariants.{NoCommand}
-use Rattle.replies.specs.Commands.{Command, Add, Interval, Order, Time, Merge, Prove, Keep, Problem, Report, Asks}
+use Rattle.replies.specs.Commands.{Command, Add, Keep, Ask, Asks}
 use Rattle.replies.specs.Reply.{State, Found, Unread, Bytes, Absent, Failed, Refuses, Reply}
 
 -- what is found at the path of a command, where the files tell it
@@ -15,14 +15,8 @@ FoundAt (Some files) (Add label path) Unread = Unit {0}
 FoundAt (Some files) (Add label path) (Bytes bytes) = files path ≡ Some bytes
 FoundAt (Some files) (Add label path) Absent = files path ≡ None
 FoundAt (Some files) (Add label path) Failed = Unit {0}
-FoundAt (Some files) (Interval first second) found = Unit {0}
-FoundAt (Some files) (Order first second) found = Unit {0}
-FoundAt (Some files) (Time event) found = Unit {0}
-FoundAt (Some files) Merge found = Unit {0}
-FoundAt (Some files) (Prove first second) found = Unit {0}
 FoundAt (Some files) (Keep event) found = Unit {0}
-FoundAt (Some files) Problem found = Unit {0}
-FoundAt (Some files) Report found = Unit {0}
+FoundAt (Some files) (Ask question) found = Unit {0}
 
 -- the reply to a command, or the refusal of a line that spells none
 abbrev pub CommandReply : Declaration → Content → State → Option Command → Found → List ℕ → State → Type 0

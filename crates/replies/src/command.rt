@@ -2,26 +2,21 @@
 ghost use Rattle.std.specs.Prelude.{◌≡◌, ◌↔◌, ◌∷◌, [], None, IsTrue, option_map, All};
 ghost use Rattle.std.specs.Int.{IsInRange};
 ghost use Rattle.line_format.specs.Cut.{fields};
-ghost use Rattle.replies.specs.Commands.{IsWord, Asks, HasWords};
-ghost use Rattle.replies.specs.CommandSeen.{command_seen};
+ghost use Rattle.replies.specs.Commands.{IsWord, Asks, HasWords, command_seen};
 
 use line_format::{cut, three_words};
+use queries::Asked;
 
 /// What is asked of all that was added. Each word is 1 byte or more from 33 to 126.
 #[derive(Clone, Copy, Debug)]
 pub enum Question<'a> {
-    /// The interval of the real time from one event to another.
-    Interval {
-        /// The name of the event that it is measured from.
+    /// What is asked of two events.
+    Compare {
+        /// What is asked.
+        asked: Asked,
+        /// The name of the event that the difference of the two real times is taken from.
         first: &'a [u8],
         /// The name of the event that it leads to.
-        second: &'a [u8],
-    },
-    /// The order of two events.
-    Order {
-        /// The name of the one.
-        first: &'a [u8],
-        /// The name of the other.
         second: &'a [u8],
     },
     /// The time of an event by the source's clock.
@@ -101,9 +96,19 @@ fn command_of<'a>(name: &[u8], first: &'a [u8], second: &'a [u8]) -> Option<Comm
         let path = text_of(second);
         Some(Command::Add { label: first, path })
     } else if name == b"interval".as_slice() {
-        Some(Command::Ask(Question::Interval { first, second }))
+        let asked = Asked::Interval;
+        Some(Command::Ask(Question::Compare {
+            asked,
+            first,
+            second,
+        }))
     } else if name == b"order".as_slice() {
-        Some(Command::Ask(Question::Order { first, second }))
+        let asked = Asked::Order;
+        Some(Command::Ask(Question::Compare {
+            asked,
+            first,
+            second,
+        }))
     } else if name == b"prove".as_slice() {
         Some(Command::Ask(Question::Prove { first, second }))
     } else {

@@ -14,9 +14,10 @@ ghost use Rattle.replies.specs.OneReply.{IsState, AreOneReply};
 ghost use Rattle.replies.specs.Lawful.{FindsBytes, IsLawful, HoldBytes, NoneFailed, AreOneOutput};
 
 use crate::merges_are_one;
-use captures::{captures_are_one, faults_are_one, nothing_reads, refused_or_read};
+use captures::{
+    captures_are_one, faults_are_one, nothing_reads, old_packets_stay, refused_or_read,
+};
 use event_log::log_answers_are_one;
-use pcapng_stream::old_packets_stay;
 
 /// A law, which does nothing when it runs: a line asks for one command at most.
 pub fn commands_are_one()

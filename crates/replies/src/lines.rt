@@ -6,9 +6,9 @@ ghost use Rattle.traces.specs.Seen.{seen_event};
 ghost use Rattle.traces.specs.Traces.{name_of};
 ghost use Rattle.traces.specs.Held.{placed_in};
 ghost use Rattle.report.specs.Merging.{merge_line};
-ghost use Rattle.traces.specs.Making.{AreEvents};
+ghost use Rattle.traces.specs.Making.{AreEventsOf};
 ghost use Rattle.replies.specs.Merged.{line_at};
-ghost use Rattle.replies.specs.Writing.{AreValued, count_line, lines_of, times_by};
+ghost use Rattle.replies.specs.Writing.{AreValued, count_line, lines_merged, times_by};
 
 use crate::keys::value_at;
 use decl::Decl;
@@ -54,7 +54,7 @@ fn write_line_at<N: Listing, O: Sink>(
     out: &mut O,
 ) -> Result<(), Failed>
     requires labels { HasLawfulLabels (declaration_of decl.now) }
-    requires events { AreEvents (declaration_of decl.now) (placed_in events.now) }
+    requires events { AreEventsOf (declaration_of decl.now) (placed_in events.now) }
     requires solved { e.now.is_solved ≡ true }
     requires valued { AreValued (N.listed names.now) (length events.now) e.now.values }
     requires inside { place < length events.now }
@@ -75,11 +75,11 @@ fn write_lines<N: Listing, O: Sink>(
     out: &mut O,
 ) -> Result<(), Failed>
     requires labels { HasLawfulLabels (declaration_of decl.now) }
-    requires events { AreEvents (declaration_of decl.now) (placed_in events.now) }
+    requires events { AreEventsOf (declaration_of decl.now) (placed_in events.now) }
     requires solved { e.now.is_solved ≡ true }
     requires valued { AreValued (N.listed names.now) (length events.now) e.now.values }
     requires inside { All (λ place. place < length events.now) order.now }
-    ensures { Writes (lines_of (declaration_of decl.now) (times_by (N.listed names.now) e.now.values) (placed_in events.now) order.now) (O.told out.old) (O.told out.new) result }
+    ensures { Writes (lines_merged (declaration_of decl.now) (times_by (N.listed names.now) e.now.values) (placed_in events.now) order.now) (O.told out.old) (O.told out.new) result }
 {
     for place in order {
         write_line_at(decl, names, events, e, *place, out)?;
@@ -109,11 +109,11 @@ pub(crate) fn write_ordered<N: Listing, O: Sink>(
     out: &mut O,
 ) -> Result<(), Failed>
     requires labels { HasLawfulLabels (declaration_of decl.now) }
-    requires events { AreEvents (declaration_of decl.now) (placed_in events.now) }
+    requires events { AreEventsOf (declaration_of decl.now) (placed_in events.now) }
     requires solved { e.now.is_solved ≡ true }
     requires valued { AreValued (N.listed names.now) (length events.now) e.now.values }
     requires inside { All (λ place. place < length events.now) order.now }
-    ensures { Writes (count_line (length events.now) ++ lines_of (declaration_of decl.now) (times_by (N.listed names.now) e.now.values) (placed_in events.now) order.now) (O.told out.old) (O.told out.new) result }
+    ensures { Writes (count_line (length events.now) ++ lines_merged (declaration_of decl.now) (times_by (N.listed names.now) e.now.values) (placed_in events.now) order.now) (O.told out.old) (O.told out.new) result }
 {
     let line = count_line(events.len() as u64);
     write_whole(out, line.as_slice())?;

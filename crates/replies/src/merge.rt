@@ -1,12 +1,13 @@
 // All events, merged.
-ghost use Rattle.std.specs.Prelude.{◌≡◌, ◌≤◌, ◌^◌, [], true, length, IsErrOf};
+ghost use Rattle.std.specs.Prelude.{◌≡◌, ◌≤◌, [], true, length, IsErrOf};
+ghost use Rattle.problem_model.specs.Limits.{most_events};
 ghost use Rattle.ports.specs.Content.{WritesSuch};
 ghost use Rattle.solver.specs.Solution.{IsSolutionBy};
 ghost use Rattle.decl.specs.Declaration.{IsDeclaration, declaration_of};
 ghost use Rattle.traces.specs.Traces.{event_count};
 ghost use Rattle.traces.specs.Held.{placed_in, seen_in};
 ghost use Rattle.traces.specs.Messages.{problem_of_seen};
-ghost use Rattle.traces.specs.Making.{AreEvents};
+ghost use Rattle.traces.specs.Making.{AreEventsOf};
 ghost use Rattle.queries.specs.declared.stop.Stop.TheVariants as stops;
 ghost use Rattle.queries.specs.Replies.{Replies};
 ghost use Rattle.replies.specs.Merged.{IsMergeText};
@@ -34,7 +35,7 @@ fn write_merged<N: Listing, O: Sink>(
     out: &mut O,
 ) -> Result<(), Stop>
     requires declared { IsDeclaration (declaration_of decl.now) }
-    requires events { AreEvents (declaration_of decl.now) (placed_in events.now) }
+    requires events { AreEventsOf (declaration_of decl.now) (placed_in events.now) }
     requires solved { e.now.is_solved ≡ true }
     requires valued { AreValued (N.listed names.now) (length events.now) e.now.values }
     ensures writes { WritesSuch (IsTextBy (declaration_of decl.now) (times_by (N.listed names.now) e.now.values) (placed_in events.now)) stops.WriteFault (O.told out.old) (O.told out.new) result }
@@ -57,7 +58,7 @@ fn write_events<N: Listing, O: Sink>(
 ) -> Result<(), Stop>
     requires declared { IsDeclaration (declaration_of decl.now) }
     requires labels { length accepted.now ≡ length decl.now.labels.items }
-    requires few { event_count (seen_in accepted.now) ≤ 2 ^ 21 }
+    requires few { event_count (seen_in accepted.now) ≤ most_events }
     requires solution { IsSolutionBy (N.listed names.now) (problem_of_seen (declaration_of decl.now) (seen_in accepted.now)) solver.now }
     requires solved { solver.now.contradiction ≡ [] }
     ensures writes { WritesSuch (Replies (problem_of_seen (declaration_of decl.now) (seen_in accepted.now)) (IsMergeText (declaration_of decl.now) (seen_in accepted.now))) stops.WriteFault (O.told out.old) (O.told out.new) result }
@@ -102,7 +103,7 @@ pub fn write_merge<N: Listing, O: Sink>(
 ) -> Result<(), Stop>
     requires declared { IsDeclaration (declaration_of decl.now) }
     requires labels { length accepted.now ≡ length decl.now.labels.items }
-    requires few { event_count (seen_in accepted.now) ≤ 2 ^ 21 }
+    requires few { event_count (seen_in accepted.now) ≤ most_events }
     requires solution { IsSolutionBy (N.listed names.now) (problem_of_seen (declaration_of decl.now) (seen_in accepted.now)) solver.now }
     ensures writes { WritesSuch (Replies (problem_of_seen (declaration_of decl.now) (seen_in accepted.now)) (IsMergeText (declaration_of decl.now) (seen_in accepted.now))) stops.WriteFault (O.told out.old) (O.told out.new) result }
     ensures untouched { IsErrOf result stops.Memory → O.told out.new ≡ O.told out.old }

@@ -2,7 +2,7 @@
 ghost use Rattle.std.specs.Prelude.{◌≡◌, ◌≤◌, ◌+◌, ◌∷◌, [], ◌++◌, ℕ, List, length};
 ghost use Rattle.atto.specs.Decimal.{decimal_of};
 ghost use Rattle.line_format.specs.Words.{words};
-ghost use Rattle.ports.specs.Room.{HasRoom};
+ghost use Rattle.ports.specs.Room.{HasRoomBehind};
 ghost use Rattle.replies.specs.Reply.{added_line, kept_line, passed_words, state_word};
 ghost use Rattle.replies.specs.Outcomes.{outcome_line};
 
@@ -60,7 +60,7 @@ impl Outcome {
 // Appends a word of at most 20 bytes and a decimal.
 fn push_count(line: &mut Line, word: &[u8], number: u64)
     requires short { length word.now ≤ 20 }
-    requires room { HasRoom line.old.items 70 }
+    requires room { HasRoomBehind line.old.items 70 }
     ensures appended { (first : List ℕ) (ws : List (List ℕ)) → line.old.items ≡ words (first ∷ ws) → line.new.items ≡ words (first ∷ ws ++ word.now ∷ decimal_of number ∷ []) }
     ensures grown { length line.new.items ≤ length line.old.items + 70 }
 {
@@ -70,7 +70,7 @@ fn push_count(line: &mut Line, word: &[u8], number: u64)
 
 // Appends how many packets were passed over, where any were.
 fn push_passed(line: &mut Line, passed: u64)
-    requires room { HasRoom line.old.items 70 }
+    requires room { HasRoomBehind line.old.items 70 }
     ensures appended { (first : List ℕ) (ws : List (List ℕ)) → line.old.items ≡ words (first ∷ ws) → line.new.items ≡ words (first ∷ ws ++ passed_words passed) }
     ensures grown { length line.new.items ≤ length line.old.items + 70 }
 {
@@ -93,7 +93,7 @@ fn state_word(consistent: bool) -> &'static [u8]
 
 // The line of what an addition changed.
 fn added_line(added: Added) -> Line
-    ensures { result.items ≡ added_line added.events added.messages added.withdrawn added.aside added.consistent }
+    ensures { result.items ≡ added_line added }
 {
     let mut line = first_word(b"added");
     push_count(&mut line, b"events", added.events);

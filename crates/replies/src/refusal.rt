@@ -2,9 +2,9 @@
 ghost use Rattle.std.specs.Prelude.{◌≡◌, ◌≤◌, ◌+◌, ◌++◌, ◌∷◌, [], ℕ, List, length, codes};
 ghost use Rattle.atto.specs.Decimal.{decimal_of};
 ghost use Rattle.line_format.specs.Words.{words};
-ghost use Rattle.ports.specs.Room.{HasRoom};
+ghost use Rattle.ports.specs.Room.{HasRoomBehind};
 ghost use Rattle.ports.specs.Content.{Writes};
-ghost use Rattle.replies.specs.Refusals.{number_of, details, refusal_line, log_refusal, capture_refusal};
+ghost use Rattle.replies.specs.Refusals.{refusal_number, details, refusal_line, log_refusal, capture_refusal};
 
 use captures::CaptureError;
 use event_log::LogError;
@@ -61,7 +61,7 @@ pub enum Refusal {
 impl Refusal {
     /// The number that stands for it.
     pub(crate) fn number(self) -> u64
-        ensures { result ≡ number_of self }
+        ensures { result ≡ refusal_number self }
     {
         match self {
             Refusal::NoCommand => 20,
@@ -95,7 +95,7 @@ impl Refusal {
 
 // Appends the words that say where and why.
 fn push_details(line: &mut Line, refusal: Refusal)
-    requires room { HasRoom line.old.items 98 }
+    requires room { HasRoomBehind line.old.items 98 }
     ensures appended { (first : List ℕ) (ws : List (List ℕ)) → line.old.items ≡ words (first ∷ ws) → line.new.items ≡ words (first ∷ ws ++ details refusal) }
     ensures grown { length line.new.items ≤ length line.old.items + 98 }
 {
@@ -112,7 +112,7 @@ fn push_details(line: &mut Line, refusal: Refusal)
 
 // Appends the place of a second file header, and the word for one.
 fn push_header(line: &mut Line, place: u32)
-    requires room { HasRoom line.old.items 98 }
+    requires room { HasRoomBehind line.old.items 98 }
     ensures appended { (first : List ℕ) (ws : List (List ℕ)) → line.old.items ≡ words (first ∷ ws) → line.new.items ≡ words (first ∷ ws ++ decimal_of place ∷ codes "header" ∷ []) }
     ensures grown { length line.new.items ≤ length line.old.items + 98 }
 {
@@ -122,7 +122,7 @@ fn push_header(line: &mut Line, place: u32)
 
 // Appends two decimals.
 fn push_both(line: &mut Line, first: u64, second: u64)
-    requires room { HasRoom line.old.items 98 }
+    requires room { HasRoomBehind line.old.items 98 }
     ensures appended { (word : List ℕ) (ws : List (List ℕ)) → line.old.items ≡ words (word ∷ ws) → line.new.items ≡ words (word ∷ ws ++ decimal_of first ∷ decimal_of second ∷ []) }
     ensures grown { length line.new.items ≤ length line.old.items + 98 }
 {

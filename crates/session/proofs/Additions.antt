@@ -10,7 +10,7 @@ use Rattle.traces.specs.declared.accepted.Stream.{Stream}
 use Rattle.traces.specs.declared.event_id.EventId.{EventId}
 use Rattle.traces.specs.Traces.{event_count}
 use Rattle.session_answers.specs.declared.answers.Answers.{Answers}
-use Rattle.session.specs.Stands.{Held, Under, IsHeld, IsKeptUp, AddsSo, held_of, seen_held, solver_of, under_of}
+use Rattle.session.specs.Stands.{Held, Under, IsHeldInSession, IsKeptUp, AddsSo, held_parts, seen_held, solver_of, under_of}
 use Rattle.session_answers.specs.Ready.{IsAddition}
 use Rattle.session.proofs.Holding.{count_grown}
 use Rattle.session.proofs.Accepting.{Extended}
@@ -57,7 +57,7 @@ stays events n s is = record {
 }
 
 -- a session that stays as it was, without a step
-pub adds_nothing : (h h' : Held) (n : ℕ) → h ≡ h' → IsHeld h → AddsSo h' h' n n
+pub adds_nothing : (h h' : Held) (n : ℕ) → h ≡ h' → IsHeldInSession h → AddsSo h' h' n n
 adds_nothing h h' n same is = subst (λ (x : Held). AddsSo x x n n) same (λ events count. by events h.answers is.kept_up)
   where
     by : (events : ℕ) (o : Option SolverLists) → IfSome o (IsKeptUp h) → IfSome o (λ before. IfSome o (λ after. IsAddition events before after n n))
@@ -75,10 +75,10 @@ adds_none h h' first last none events count = by h.answers h'.answers none
 
 -- ---- where events were added
 pub added_so : (d d' : Declaration) (accepted new then : List Accepted) (kept : List EventId) (ready : Bool) (a b : Answers) (held : Held) (k n : ℕ) (events : List Seen) (size : ℕ) (stream : Stream) (first last : ℕ) →
-    Extended d accepted new kept (solver_of ready a) held k events size stream → then ≡ new → n ≡ length events → IsAddition n a.graph.solver b.graph.solver first last → AddsSo held (held_of d' then kept (solver_of true b)) first last
+    Extended d accepted new kept (solver_of ready a) held k events size stream → then ≡ new → n ≡ length events → IsAddition n a.graph.solver b.graph.solver first last → AddsSo held (held_parts d' then kept (solver_of true b)) first last
 added_so d d' accepted new then kept ready a b held k n events size stream first last e is many adds =
-    subst (λ (h : Held). AddsSo h (held_of d' then kept (solver_of true b)) first last) e.same
-    (subst (λ (l : List Accepted). AddsSo (held_of d accepted kept (solver_of ready a)) (held_of d' l kept (solver_of true b)) first last) (sym is) (λ m count. by ready m (same m count)))
+    subst (λ (h : Held). AddsSo h (held_parts d' then kept (solver_of true b)) first last) e.same
+    (subst (λ (l : List Accepted). AddsSo (held_parts d accepted kept (solver_of ready a)) (held_parts d' l kept (solver_of true b)) first last) (sym is) (λ m count. by ready m (same m count)))
   where
     grown : event_count (seen_held (map under_of new)) ≡ event_count (seen_held (map under_of accepted)) + length events
     grown = ap (λ (u : List Under). event_count (seen_held u)) e.grew.is ∙ count_grown (map under_of accepted) k e.grew.at events size stream e.grew.was

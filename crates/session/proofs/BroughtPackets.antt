@@ -1,7 +1,8 @@
 -- The packets that an accepted addition brings.
-use Rattle.std.proofs.Common.{◌≡◌, inl, inr, ℕ, suc, ◌+◌, ◌^◌, ◌<◌, List, [], ◌∷◌, ◌++◌, length, slice_get, slice_set, Option, Some, Bool, true, false, nat_le, option_map, MatchBool, pos, length-append, append_assoc, sym, ◌∙◌, ap, subst, arith}
+use Rattle.std.proofs.Common.{◌≡◌, inl, inr, ℕ, suc, ◌+◌, ◌<◌, List, [], ◌∷◌, ◌++◌, length, slice_get, slice_set, Option, Some, Bool, true, false, nat_le, option_map, MatchBool, pos, length-append, append_assoc, sym, ◌∙◌, ap, subst, arith}
 use Rattle.std.proofs.lemmas.List.{length-map, map-append}
 use Rattle.std.proofs.lemmas.Option.{slice_get-map}
+use Rattle.problem_model.specs.Limits.{most_events}
 use Rattle.captures.specs.Capture as captures
 use Rattle.captures.specs.Capture.{Reads}
 use Rattle.captures.specs.Feeding.{Packet, seen_packet, seen_packets}
@@ -36,8 +37,8 @@ first_of (b ∷ more) = b
 -- no refusal says what was added
 pub never_both : {P : Type 0} (text : List ℕ) (r : Refusal) → text ≡ refusal_line r → IsAddedLine text → P
 unfolding first_of
-never_both text r refused (events, messages, withdrawn, aside, consistent, added) =
-    let lines : refusal_line r ≡ added_line events messages withdrawn aside consistent = sym refused ∙ added in
+never_both text r refused (a, added) =
+    let lines : refusal_line r ≡ added_line a = sym refused ∙ added in
     let first : ◌≡◌ {A = ℕ} 114 97 = ap first_of lines in
     absurd (omega (arith, first))
 
@@ -72,7 +73,7 @@ stored_then place before n kept new old ys stored packet count are is more =
 module _ (d : Declaration) (s s' : State) (k : ℕ) (text : List ℕ) (says : IsAddedLine text) where
   pub accept_brings : (old new : Trace) (packets : List Timed) → AcceptReply d s k new text s' → slice_get s.traces k ≡ Some old → packets_under k new ≡ packets_under k old ++ packets →
       BringsPackets s.traces s'.traces packets
-  accept_brings old new packets reply at more = by_room (nat_le (count_by d (slice_set s.traces k new)) (2 ^ 21)) reply
+  accept_brings old new packets reply at more = by_room (nat_le (count_by d (slice_set s.traces k new)) (most_events)) reply
     where
       by_room : (b : Bool) → MatchBool b ((s' ≡ record s { traces = slice_set s.traces k new }) × IsAdded d s.traces (slice_set s.traces k new) (aside_of new) text) (Refuses s TooManyEvents text s') →
           BringsPackets s.traces s'.traces packets

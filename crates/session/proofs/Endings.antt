@@ -13,7 +13,7 @@ use Rattle.queries.specs.declared.stop.Stop.{Stop}
 use Rattle.queries.specs.declared.stop.Stop.TheVariants as stops
 use Rattle.session.specs.declared.ended.Ended.{Ended}
 use Rattle.session.specs.declared.ended.Ended.TheVariants.{Done, ReadFault, Limit, WriteFault, Memory}
-use Rattle.session.specs.Script.{Devices, OfScript, Replied, IsTaken, IsInterrupted, ScriptAnswered}
+use Rattle.session.specs.Script.{Devices, OfScript, Replied, IsTakenFromScript, IsInterrupted, ScriptAnswered}
 use Rattle.session.specs.Stopping.{ended_of}
 use Rattle.session.specs.Turns.{AnswersLine, RunsOut, HasNoLine, FailsInLine, IsPastMost, HasNoReply}
 use Rattle.session.proofs.Scripts.{feeds, NoFeeds, whole_broken, lines_end, feeds_cut, tail_none, take_front}
@@ -77,7 +77,7 @@ length_taken front left more left' script taken count cut is =
     omega (arith, count, ap length cut, ap length is, length-append more left', length-append front left')
 
 fault_at : (d : Declaration) (old now now' : Devices) (held : Held) (r r' : Reader) (script : List ℕ) → IsAt d old now held r script → FailsInLine r r' now now' →
-    Keeps now.files now'.files → IsTaken d old now' (Appends old.out.written now'.out.written) script
+    Keeps now.files now'.files → IsTakenFromScript d old now' (Appends old.out.written now'.out.written) script
 fault_at d old now now' held r r' script here turn keeps =
     let came = came_off now.input now'.input here.left turn.bytes here.left_is turn.counts.came in
     let place = open_place script here.done (r.held ++ here.left) r.ended turn.breaks.going here.place in

@@ -16,8 +16,9 @@ use Rattle.solver.specs.Solver.{SolverLists}
 use Rattle.traces.specs.declared.accepted.Stream.{Stream}
 use Rattle.traces.specs.declared.accepted.Stream.TheVariants as streams
 use Rattle.decl.specs.Declaration.{Declaration}
-use Rattle.session.specs.Stands.{Under, Held, IsUnder, IsWithin, held_of, under_of}
-use Rattle.session.specs.Inside.{HasPlace, IsGrownAt, IsStreamWithin, grown}
+use Rattle.replies.specs.Reply.{most_of_label}
+use Rattle.session.specs.Stands.{Under, Held, IsLawfulUnder, IsReadWithin, held_parts, under_of}
+use Rattle.session.specs.Inside.{HasPlace, IsGrownAt, IsStreamWithin, grown_under}
 use Rattle.session.specs.Pieces.{HasPlaceFor, SaysEvents}
 use Rattle.session.proofs.Holding.{IsWithinLimits}
 use Rattle.replies.proofs.Elements.{some_same}
@@ -31,7 +32,7 @@ at_place : (accepted : List Accepted) (k : ℕ) (a : Accepted) → slice_get acc
 at_place accepted k a at_k = slice_get-map under_of accepted k ∙ ap (option_map under_of) at_k
 
 pub grown_at : (accepted : List Accepted) (k : ℕ) (a new : Accepted) (events : List Seen) (size : ℕ) (stream : Stream) → slice_get accepted k ≡ Some a →
-    under_of new ≡ grown (under_of a) events size stream → IsGrownAt (map under_of accepted) (map under_of (slice_set accepted k new)) k events size stream
+    under_of new ≡ grown_under (under_of a) events size stream → IsGrownAt (map under_of accepted) (map under_of (slice_set accepted k new)) k events size stream
 grown_at accepted k a new events size stream at_k is = record {
   at = under_of a;
   was = at_place accepted k a at_k;
@@ -65,11 +66,11 @@ kept_by accepted k a new at_k events_are size_is tail_is =
     ∙ ap (λ (t : Stream). under_with (seen_events a.events.items) a.size t) tail_is)
 
 pub size_fits : (accepted : List Accepted) (k : ℕ) (a : Accepted) (size : ℕ) → slice_get accepted k ≡ Some a → HasPlace (map under_of accepted) k size → a.size + size < 2 ^ 64
-size_fits accepted k a size at_k place = let fits : a.size + size ≤ 2 ^ 30 = place (under_of a) (at_place accepted k a at_k) in omega (arith, fits)
+size_fits accepted k a size at_k place = let fits : a.size + size ≤ most_of_label = place (under_of a) (at_place accepted k a at_k) in omega (arith, fits)
 
 -- ---- the stream of a label
 -- what is held at a place, by what the code holds there
-pub under_at : (d : Declaration) (accepted : List Accepted) (kept : List EventId) (answers : Option SolverLists) (held : Held) (k : ℕ) (a : Accepted) → held_of d accepted kept answers ≡ held → k < length held.under → a ≡ slice_index_or accepted k a →
+pub under_at : (d : Declaration) (accepted : List Accepted) (kept : List EventId) (answers : Option SolverLists) (held : Held) (k : ℕ) (a : Accepted) → held_parts d accepted kept answers ≡ held → k < length held.under → a ≡ slice_index_or accepted k a →
     slice_get held.under k ≡ Some (under_of a)
 under_at d accepted kept answers held k a same inside is =
     let P : Held → Type 0 = λ h. k < length h.under in
@@ -79,40 +80,40 @@ under_at d accepted kept answers held k a same inside is =
     let had : slice_get accepted k ≡ Some a = slice_get-get_or accepted k a within ∙ ap Some (sym is) in
     subst (λ (h : Held). slice_get h.under k ≡ Some (under_of a)) same (at_place accepted k a had)
 
-fits_at : (under : List Under) (k : ℕ) (u : Under) → All IsUnder under → slice_get under k ≡ Some u → IsUnder u
+fits_at : (under : List Under) (k : ℕ) (u : Under) → All IsLawfulUnder under → slice_get under k ≡ Some u → IsLawfulUnder u
 fits_at [] k u all at_k = absurd cc
-fits_at (v ∷ under) zero u all at_k = subst IsUnder (some_same v u at_k) (All-head IsUnder v under all)
-fits_at (v ∷ under) (suc k) u all at_k = fits_at under k u (All-tail IsUnder v under all) at_k
+fits_at (v ∷ under) zero u all at_k = subst IsLawfulUnder (some_same v u at_k) (All-head IsLawfulUnder v under all)
+fits_at (v ∷ under) (suc k) u all at_k = fits_at under k u (All-tail IsLawfulUnder v under all) at_k
 
 -- a place by its label is a place by what the session holds
 pub inside_under : (held : Held) (k : ℕ) → IsWithinLimits held → k < length held.declaration.labels → k < length held.under
 inside_under held k is inside = let each = is.each in omega (arith, inside, each)
 
 -- a piece that has its place can be fed
-place_fits : (stream : Stream) (size n : ℕ) → IsWithin stream size → size + n ≤ 2 ^ 30 → HasPlaceFor stream n
+place_fits : (stream : Stream) (size n : ℕ) → IsReadWithin stream size → size + n ≤ most_of_label → HasPlaceFor stream n
 place_fits streams.Log size n within place = tt
 place_fits (streams.Capture tail) size n within place =
     let read : taken tail ≤ size = within in
-    let fits : taken tail + n ≤ 2 ^ 30 = omega (arith, read, place) in
+    let fits : taken tail + n ≤ most_of_label = omega (arith, read, place) in
     fits
 
 pub stream_fits : (held : Held) (k n : ℕ) (u : Under) → IsWithinLimits held → slice_get held.under k ≡ Some u → HasPlace held.under k n → HasPlaceFor u.stream n
 stream_fits held k n u is at_k place = place_fits u.stream u.size n (fits_at held.under k u is.fit at_k).1 (place u at_k)
 
 -- and what is then kept is of no more than the label then has
-says_within : (d : Declaration) (host : ℕ) (old next : Stream) (piece : List ℕ) (events : List Seen) (size : ℕ) → IsWithin old size → SaysEvents d host old piece events next →
-    IsWithin next (size + length piece)
-says_within d host streams.Log next piece events size within says = subst (λ (x : Stream). IsWithin x (size + length piece)) (sym says.kept) tt
+says_within : (d : Declaration) (host : ℕ) (old next : Stream) (piece : List ℕ) (events : List Seen) (size : ℕ) → IsReadWithin old size → SaysEvents d host old piece events next →
+    IsReadWithin next (size + length piece)
+says_within d host streams.Log next piece events size within says = subst (λ (x : Stream). IsReadWithin x (size + length piece)) (sym says.kept) tt
 says_within d host (streams.Capture tail) next piece events size within says =
     let came : taken says.fed ≡ taken tail + length piece = says.size in
     let read : taken tail ≤ size = within in
     let fits : taken says.fed ≤ size + length piece = omega (arith, read, came) in
-    subst (λ (x : Stream). IsWithin x (size + length piece)) (sym says.kept) fits
+    subst (λ (x : Stream). IsReadWithin x (size + length piece)) (sym says.kept) fits
 
 pub stream_within : (held : Held) (d : Declaration) (host k : ℕ) (u : Under) (next : Stream) (piece : List ℕ) (events : List Seen) → IsWithinLimits held → slice_get held.under k ≡ Some u →
     SaysEvents d host u.stream piece events next → IsStreamWithin held.under k (length piece) next
 stream_within held d host k u next piece events is at_k says v at_v =
-    subst (λ (x : Under). IsWithin next (x.size + length piece)) (some_same u v (sym at_k ∙ at_v))
+    subst (λ (x : Under). IsReadWithin next (x.size + length piece)) (some_same u v (sym at_k ∙ at_v))
     (says_within d host u.stream next piece events u.size (fits_at held.under k u is.fit at_k).1 says)
 
 -- a label has no more events than all have

@@ -1,5 +1,5 @@
 -- The replies to `add`.
-use Rattle.std.proofs.Common.{◌≡◌, ◌⊎◌, inl, inr, ℕ, zero, suc, ◌+◌, ◌^◌, ◌<◌, ◌≤◌, List, [], ◌∷◌, length, Option, Some, None, Bool, true, false, position, refl, sym, subst, arith}
+use Rattle.std.proofs.Common.{◌≡◌, ◌⊎◌, inl, inr, ℕ, zero, suc, ◌+◌, ◌<◌, ◌≤◌, List, [], ◌∷◌, length, Option, Some, None, Bool, true, false, position, refl, sym, subst, arith}
 use Rattle.std.specs.Str.{bytes_eq}
 use Rattle.std.proofs.lemmas.List.Quantifiers.{position-Some}
 use Rattle.std.proofs.lemmas.Grind.{common_steps}
@@ -10,7 +10,7 @@ use Rattle.decl.specs.Declaration.{Declaration}
 use Rattle.replies.specs.declared.refusal.Refusal.TheVariants.{UnknownLabel, UnreadFile}
 use Rattle.replies.specs.Refusals.{refusal_line}
 use Rattle.replies.specs.Commands.{Add}
-use Rattle.replies.specs.Reply.{State, Found, Unread, Bytes, Absent, Failed, AddReply, label_at}
+use Rattle.replies.specs.Reply.{State, Found, Unread, Bytes, Absent, Failed, AddReply, label_at, most_piece}
 use Rattle.replies.specs.Sessions.{FoundAt}
 use Rattle.session.specs.Stands.{Held, StandsFor}
 use Rattle.session.specs.Inside.{IsPiece, FrontAnswered, CommandAnswered}
@@ -78,15 +78,15 @@ more_than : (n : ℕ) → (bytes : List ℕ) × (n < length bytes)
 more_than zero = (0 ∷ [], omega arith)
 more_than (suc n) = let more = more_than n in (0 ∷ more.0, omega (arith, more.1))
 
-piece_of : (files : Content) (path front : List ℕ) (more : Bool) → HasBytes files path (IsFront (2 ^ 28) front more) →
+piece_of : (files : Content) (path front : List ℕ) (more : Bool) → HasBytes files path (IsFront most_piece front more) →
     (bytes : List ℕ) × ((label : List ℕ) → FoundAt files (Add label path) (Bytes bytes)) × IsPiece more front bytes
 piece_of None path front false has = (front, (λ label. tt), refl)
-piece_of None path front true has = let some = more_than (2 ^ 28) in (some.0, (λ label. tt), some.1)
-piece_of (Some files) path front false has = (has.0, (λ label. has.1), sym (whole (2 ^ 28) front has.0 false refl has.2))
-piece_of (Some files) path front true has = (has.0, (λ label. has.1), long (2 ^ 28) front has.0 true refl has.2)
+piece_of None path front true has = let some = more_than most_piece in (some.0, (λ label. tt), some.1)
+piece_of (Some files) path front false has = (has.0, (λ label. has.1), sym (whole most_piece front has.0 false refl has.2))
+piece_of (Some files) path front true has = (has.0, (λ label. has.1), long most_piece front has.0 true refl has.2)
 
 pub under_read : (held held' : Held) (files files' : FilesTold) (path front : List ℕ) (more : Bool) (k : ℕ) (Says : Found → Type 0) (IsWritten : List ℕ → Type 0) →
-    Keeps files files' → HasBytes files.content path (IsFront (2 ^ 28) front more) → ((bytes : List ℕ) → IsPiece more front bytes → Says (Bytes bytes)) → FrontAnswered more front held held' k IsWritten →
+    Keeps files files' → HasBytes files.content path (IsFront most_piece front more) → ((bytes : List ℕ) → IsPiece more front bytes → Says (Bytes bytes)) → FrontAnswered more front held held' k IsWritten →
     UnderAnswered k path files files' held held' Says IsWritten
 under_read held held' files files' path front more k Says IsWritten keeps has says answer d s stands =
     let piece = piece_of files.content path front more has in (

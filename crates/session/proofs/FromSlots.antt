@@ -1,17 +1,18 @@
 -- What is answered from rows of kept events, by the slots of their nodes.
-use Rattle.std.proofs.Common.{◌≡◌, ◌⊎◌, inl, inr, ℕ, ◌<◌, List, length, slice_get, Some, sym, ◌∙◌, ap, arith}
+use Rattle.std.proofs.Common.{◌≡◌, ℕ, ◌<◌, List, length, slice_get, Some, sym, ◌∙◌, ap, arith}
 use Rattle.std.proofs.lemmas.Option.{slice_get_within}
 use Rattle.decl.specs.Declaration.{Declaration}
 use Rattle.traces.specs.Seen.{Seen}
 use Rattle.traces.specs.declared.event_id.EventId.{EventId}
 use Rattle.traces.specs.Traces.{name_of}
-use Rattle.replies.specs.Commands.{Command, Add, Interval, Order, Time, Merge, Prove, Keep, Problem, Report}
+use Rattle.replies.specs.Commands.{Question, IsReadOff}
+use Rattle.replies.proofs.Commands.{read_off}
 use Rattle.replies.proofs.Elements.{there_some}
 use Rattle.session_answers.specs.declared.answers.Answers.{Answers}
 use Rattle.session_answers.specs.Ready.{HasNodeOf, AreAnswersOf}
-use Rattle.session_answers.specs.Keeping.{HasSlotBy, IsAnsweredFromSlots}
+use Rattle.session_answers.specs.Keeping.{HasSlotBy}
 use Rattle.session_answers.proofs.Slotting.{slot_found}
-use Rattle.session.specs.Stands.{Held, KeepsEvent, IsAnsweredFromRows}
+use Rattle.session.specs.Stands.{Held, KeepsEvent}
 
 module _ (seen : List (List Seen)) (kept : List EventId) (a : Answers) (are : AreAnswersOf seen kept a) (h : Held) (declared : h.declaration ≡ a.graph.roster.declaration) (same : h.kept ≡ kept) where
   slot_by : (name : List ℕ) → KeepsEvent h name → HasSlotBy a.graph.roster a.graph.solver name
@@ -24,18 +25,6 @@ module _ (seen : List (List Seen)) (kept : List EventId) (a : Answers) (are : Ar
       let named : name_of a.graph.roster.declaration event ≡ name = ap (λ (x : Declaration). name_of x event) (sym declared) ∙ is in
       (event, slot.0.node, record { known = known; named = named }, slot_found a.graph.solver.kept.slots k slot.0 slot.1)
 
-  either_by : (first second : List ℕ) → KeepsEvent h first ⊎ KeepsEvent h second → HasSlotBy a.graph.roster a.graph.solver first ⊎ HasSlotBy a.graph.roster a.graph.solver second
-  either_by first second (inl keeps) = inl (slot_by first keeps)
-  either_by first second (inr keeps) = inr (slot_by second keeps)
-
-  -- what is answered from rows of kept events is answered from those of slots
-  pub from_slots : (c : Command) → IsAnsweredFromRows h c → IsAnsweredFromSlots a.graph.roster a.graph.solver c
-  from_slots (Add label path) is = is
-  from_slots (Interval first second) is = either_by first second is
-  from_slots (Order first second) is = either_by first second is
-  from_slots (Time event) is = tt
-  from_slots Merge is = tt
-  from_slots (Prove first second) is = slot_by first is
-  from_slots (Keep event) is = is
-  from_slots Problem is = tt
-  from_slots Report is = tt
+  -- what is read off rows of kept events is read off those of slots
+  pub from_slots : (q : Question) → IsReadOff (KeepsEvent h) q → IsReadOff (HasSlotBy a.graph.roster a.graph.solver) q
+  from_slots = read_off (KeepsEvent h) (HasSlotBy a.graph.roster a.graph.solver) slot_by

@@ -21,7 +21,7 @@ use Rattle.replies.specs.declared.outcome.Aside.{Aside}
 use Rattle.replies.specs.declared.refusal.Refusal.{Refusal}
 use Rattle.replies.specs.Refusals.{refusal_line}
 use Rattle.replies.specs.Reply.{State, LogReply, CaptureReply, KindReply, IsLogRefusal, with_rows}
-use Rattle.session.specs.Stands.{Under, Held, StandsFor, IsStreamOf, kind_of}
+use Rattle.session.specs.Stands.{Under, Held, StandsFor, IsStreamOf, kind_by_stream}
 use Rattle.session.specs.Pieces.{IsFed, SaysEvents, IsRefusedAs}
 use Rattle.session.specs.Inside.{AcceptAnswered, Answered, KindAnswered, IsGrownTrace}
 use Rattle.replies.proofs.Elements.{some_same, there_some}
@@ -128,21 +128,21 @@ stood_for held k u tail at_under is d s bytes capture stands at_trace =
 
 module _ (held held' : Held) (k host : ℕ) (piece : List ℕ) (u : Under) (events : List Seen) (next : Stream) (IsWritten : List ℕ → Type 0) (at_under : slice_get held.under k ≡ Some u)
     (at_host : slice_get (map (λ (l : Label). l.host) held.declaration.labels) k ≡ Some host) (answered : AcceptAnswered held held' k events (length piece) next IsWritten) where
-  by_stream : (kept : Stream) → u.stream ≡ kept → SaysEvents held.declaration host kept piece events next → KindAnswered (kind_of kept) held held' k (λ d s trace. KindReply d s k trace (kind_of kept) piece) IsWritten
+  by_stream : (kept : Stream) → u.stream ≡ kept → SaysEvents held.declaration host kept piece events next → KindAnswered (kind_by_stream kept) held held' k (λ d s trace. KindReply d s k trace (kind_by_stream kept) piece) IsWritten
   by_stream streams.Log is says = log_accepted held held' k piece says.rows events next IsWritten says.are says.seen says.kept answered
   by_stream (streams.Capture tail) is says =
       capture_accepted held held' k host piece tail says.fed says.packets events IsWritten (stood_for held k u tail at_under is) at_host says.completes says.seen
       (subst (λ (x : Stream). AcceptAnswered held held' k events (length piece) x IsWritten) says.kept answered)
 
   -- what says these events, which were accepted, is answered
-  pub says_answered : SaysEvents held.declaration host u.stream piece events next → KindAnswered (kind_of u.stream) held held' k (λ d s trace. KindReply d s k trace (kind_of u.stream) piece) IsWritten
+  pub says_answered : SaysEvents held.declaration host u.stream piece events next → KindAnswered (kind_by_stream u.stream) held held' k (λ d s trace. KindReply d s k trace (kind_by_stream u.stream) piece) IsWritten
   says_answered says = by_stream u.stream refl says
 
 module _ (held : Held) (k : ℕ) (piece : List ℕ) (u : Under) (r : Refusal) (IsWritten : List ℕ → Type 0) (at_under : slice_get held.under k ≡ Some u) (written : IsWritten (refusal_line r)) where
-  refused_by_stream : (kept : Stream) → u.stream ≡ kept → IsRefusedAs kept piece r → KindAnswered (kind_of kept) held held k (λ d s trace. KindReply d s k trace (kind_of kept) piece) IsWritten
+  refused_by_stream : (kept : Stream) → u.stream ≡ kept → IsRefusedAs kept piece r → KindAnswered (kind_by_stream kept) held held k (λ d s trace. KindReply d s k trace (kind_by_stream kept) piece) IsWritten
   refused_by_stream streams.Log is why = log_refused held k piece r IsWritten why written
   refused_by_stream (streams.Capture tail) is why = capture_refused held k piece tail r IsWritten (stood_for held k u tail at_under is) why written
 
   -- and so is a refusal
-  pub refusal_answered : IsRefusedAs u.stream piece r → KindAnswered (kind_of u.stream) held held k (λ d s trace. KindReply d s k trace (kind_of u.stream) piece) IsWritten
+  pub refusal_answered : IsRefusedAs u.stream piece r → KindAnswered (kind_by_stream u.stream) held held k (λ d s trace. KindReply d s k trace (kind_by_stream u.stream) piece) IsWritten
   refusal_answered why = refused_by_stream u.stream refl why

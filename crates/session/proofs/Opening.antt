@@ -9,7 +9,7 @@ use Rattle.traces.specs.Held.{seen_in}
 use Rattle.session_answers.specs.declared.answers.Answers.{Answers}
 use Rattle.replies.specs.Reply.{AreKept}
 use Rattle.session_answers.specs.Ready.{AreAnswersOf}
-use Rattle.session.specs.Stands.{held_of, solver_of, under_of}
+use Rattle.session.specs.Stands.{held_parts, solver_of, under_of}
 use Rattle.session.specs.Inside.{AreEmpty}
 use Rattle.session.proofs.Accepting.{IsWhole, held_ready}
 use Rattle.session_answers.proofs.Beginning.{all_nothing, nothing_for}
@@ -28,7 +28,7 @@ pub whole_start : (accepted : List Accepted) (kept : List EventId) (a : Answers)
 whole_start accepted kept a empty are none =
     let here : AreAnswersOf (seen_in accepted) kept a = subst (λ (events : List EventId). AreAnswersOf (seen_in accepted) events a) (sym none)
     (subst (λ (x : List (List Seen)). AreAnswersOf x [] a) (nothing_under a accepted empty) are) in (
-      held_ready accepted kept true a (held_start (held_of a.graph.roster.declaration accepted kept (solver_of true a)) are.lawful.declared empty) (λ e. here),
+      held_ready accepted kept true a (held_start (held_parts a.graph.roster.declaration accepted kept (solver_of true a)) are.lawful.declared empty) (λ e. here),
       subst (λ (events : List EventId). AreKept (seen_in accepted) events) (sym none) (none_kept (seen_in accepted)),
       λ e. here,
     )

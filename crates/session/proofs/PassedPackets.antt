@@ -6,7 +6,7 @@ use Rattle.decl.specs.Declaration.{Declaration}
 use Rattle.traces.specs.declared.accepted.Accepted.{Accepted}
 use Rattle.traces.specs.declared.accepted.Stream.{Stream}
 use Rattle.traces.specs.declared.accepted.Stream.TheVariants as streams
-use Rattle.traces.specs.Traces.{Trace, Captured, Logged, Traces, passed_of, size_of}
+use Rattle.traces.specs.Traces.{Trace, Captured, Logged, Traces, passed_of, bytes_accepted}
 use Rattle.traces.specs.Held.{passed_by, passed_in}
 use Rattle.replies.specs.Reply.{State}
 use Rattle.session.specs.Stands.{Held, Under, StandsFor, IsStreamOf, under_of}
@@ -36,5 +36,5 @@ pub passed_same : (held : Held) (accepted : List Accepted) (x : Declaration) (s 
 passed_same held accepted x s is stands =
     let size = λ (u : Under). u.size in
     let same : length accepted ≡ length s.traces =
-    sym (length-map accepted under_of) ∙ ap (λ (us : List Under). length us) (sym is) ∙ sym (length-map held.under size) ∙ ap (λ (ns : List ℕ). length ns) stands.sizes ∙ length-map s.traces size_of in
+    sym (length-map accepted under_of) ∙ ap (λ (us : List Under). length us) (sym is) ∙ sym (length-map held.under size) ∙ ap (λ (ns : List ℕ). length ns) stands.sizes ∙ length-map s.traces bytes_accepted in
     each_passed accepted s.traces same (λ k u trace at_u at_t. stands.streams k u trace (ap (λ (us : List Under). slice_get us k) is ∙ at_u) at_t)

@@ -7,13 +7,13 @@ use Rattle.ports.specs.Files.{Content, Keeps}
 use Rattle.ports.proofs.Writing.{appends_then, appends_none, prefix_then}
 use Rattle.decl.specs.Declaration.{Declaration}
 use Rattle.ports.specs.Lines.{lines_of, whole_lines, most_taken}
-use Rattle.ports.specs.Reader.{Reader, IsFirst, Gives, fresh}
+use Rattle.ports.specs.Reader.{Reader, IsFirstLine, GivesLine, fresh}
 use Rattle.ports.proofs.Pieces.{came_off, nothing_left}
 use Rattle.ports.proofs.LinesOf.{gives_first}
 use Rattle.replies.specs.Reply.{State, Found}
 use Rattle.replies.specs.Sessions.{Session, LineReply, AreCounted, start}
 use Rattle.session.specs.Stands.{Held, StandsFor}
-use Rattle.session.specs.Script.{Devices, OfScript, IsBegun, lines_within}
+use Rattle.session.specs.Script.{Devices, OfScript, IsScriptBegun, lines_within}
 use Rattle.session.specs.Turns.{TakesOff, AnswersLine}
 use Rattle.session.proofs.Scripts.{feeds, NoFeeds, whole_feeds, lines_feeds, lines_last, feeds_more, feeds_cut, none_more, tail_none, take_feeds}
 use Rattle.session.proofs.Replies.{session_more, counted_more, counted_none, concat_more}
@@ -60,7 +60,7 @@ pub at_start : (d : Declaration) (t : Devices) (held : Held) (r : Reader) (scrip
 at_start d t held r script is stands told = subst (λ (x : Reader). IsAt d t t held x script) (sym is) (at_fresh d t held script stands told)
 
 pub place_more : (script : List ℕ) (done : List (List ℕ)) (rest rest' line : List ℕ) (ended ended' : Bool) → ended ≡ false → IsPlace script done rest ended →
-    IsFirst rest line rest' ended' → IsPlace script (done ++ line ∷ []) rest' ended'
+    IsFirstLine rest line rest' ended' → IsPlace script (done ++ line ∷ []) rest' ended'
 place_more script done rest rest' line true ended' going place first = absurd cc
 place_more script done rest rest' line false false going place first =
     (place.0 ∙ ap (feeds done) first.1 ∙ sym (feeds_more done line rest'), none_more done line place.1 first.0)
@@ -95,8 +95,8 @@ same_some : (x y : List ℕ) → Some x ≡ Some y → x ≡ y
 same_some x y e = cc
 
 -- a line that is given is the first of the bytes held and left
-pub given_first : (r r' : Reader) (before after : SourceTold) (left rest bytes line : List ℕ) → before.left ≡ Some left → left ≡ bytes ++ rest → after.left ≡ Some rest → Gives r r' before after bytes line →
-    IsFirst (r.held ++ left) line (r'.held ++ rest) r'.ended
+pub given_first : (r r' : Reader) (before after : SourceTold) (left rest bytes line : List ℕ) → before.left ≡ Some left → left ≡ bytes ++ rest → after.left ≡ Some rest → GivesLine r r' before after bytes line →
+    IsFirstLine (r.held ++ left) line (r'.held ++ rest) r'.ended
 given_first r r' before after left rest bytes line told cut behind gives =
     let first = gives_first r r' before after bytes line rest gives (λ ended. same_some rest [] (sym behind ∙ nothing_left before after left told (gives.last ended))) in
     let all : r.held ++ left ≡ (r.held ++ bytes) ++ rest = ap (λ (l : List ℕ). r.held ++ l) cut ∙ sym (append_assoc r.held bytes rest) in
@@ -164,7 +164,7 @@ module _ (d : Declaration) (old now now' : Devices) (held held' : Held) (r r' : 
       }
 
   -- a front of it is written
-  pub cut_at_line : AnswersLine held held' r r' now now' (AppendsPrefix now.out.written now'.out.written) → IsBegun d old now' (AppendsPrefix old.out.written now'.out.written) script
+  pub cut_at_line : AnswersLine held held' r r' now now' (AppendsPrefix now.out.written now'.out.written) → IsScriptBegun d old now' (AppendsPrefix old.out.written now'.out.written) script
   cut_at_line turn =
       let Front : List ℕ → Type 0 = AppendsPrefix now.out.written now'.out.written in
       let off = turn.off in

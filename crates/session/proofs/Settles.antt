@@ -29,7 +29,7 @@ use Rattle.solver.specs.Solver.{SolverLists}
 use Rattle.queries.specs.Contradiction.{HasContradictionBy}
 use Rattle.roster.specs.declared.came.Came.{Came}
 use Rattle.roster.specs.Groups.{group_at, sizes_of}
-use Rattle.roster.specs.Roster.{RosterLists, IsRoster, Holds, IsUnder, id_of, event_at, no_event, listed}
+use Rattle.roster.specs.Roster.{RosterLists, IsRoster, HoldsEvents, IsNumberUnder, id_of, event_at, no_event, listed}
 use Rattle.replies.specs.Reply.{IsPlacedAt}
 use Rattle.session_answers.specs.Ready.{HasNodeOf}
 use Rattle.session.specs.Settled.{HasEventOf, event_of, node_of, settled, valued, at_time}
@@ -56,7 +56,7 @@ module _ (r : RosterLists) (is : IsRoster r) where
     id_is : id_of came ≡ event
     node_is : node_of r event ≡ came.node
 
-  known : (event : EventId) (v : ℕ) → IsUnder r.under event v → Known event v
+  known : (event : EventId) (v : ℕ) → IsNumberUnder r.under event v → Known event v
   known event v (k, number, under) =
       let n = is.numbered event.label k v under in
       let place : event.number - 1 ≡ k = omega (arith, number) in
@@ -70,18 +70,18 @@ module _ (r : RosterLists) (is : IsRoster r) where
         node_is = ap (λ (w : ℕ). (event_at r.came w).node) first ∙ ap (λ (e : Came). e.node) (get_or_from_slice_get r.came v n.0 no_event n.1);
       }
 
-  pub number_inside : (event : EventId) (v : ℕ) → IsUnder r.under event v → v < length r.came
+  pub number_inside : (event : EventId) (v : ℕ) → IsNumberUnder r.under event v → v < length r.came
   number_inside event v under = let e = known event v under in slice_get_within r.came v e.came e.there
 
   -- whatever number it is found by, its node is this one
-  pub node_found : (event : EventId) (v : ℕ) (e : Came) → IsUnder r.under event v → slice_get r.came v ≡ Some e → e.node ≡ node_of r event
+  pub node_found : (event : EventId) (v : ℕ) (e : Came) → IsNumberUnder r.under event v → slice_get r.came v ≡ Some e → e.node ≡ node_of r event
   node_found event v e under there =
       let own = known event v under in
       ap (λ (x : Came). x.node) (some_same e own.came (sym there ∙ own.there)) ∙ sym own.node_is
 
-  module _ (seen : List (List Seen)) (holds : Holds r seen) where
+  module _ (seen : List (List Seen)) (holds : HoldsEvents r seen) where
     -- the event that a label has of this number is under it
-    pub event_under : (t : Timed) → HasEventOf seen t → (v : ℕ) × IsUnder r.under (event_of t) v
+    pub event_under : (t : Timed) → HasEventOf seen t → (v : ℕ) × IsNumberUnder r.under (event_of t) v
     event_under t (own, k, at, number, few) =
         let sizes : slice_get (map (λ (ss : List Seen). length ss) seen) t.key.place ≡ Some (length own) = map_at (λ (ss : List Seen). length ss) seen t.key.place own at in
         let mine : slice_get (sizes_of r.under) t.key.place ≡ Some (length own) = ap (λ (ns : List ℕ). slice_get ns t.key.place) (sizes_are r is seen holds) ∙ sizes in
@@ -92,7 +92,7 @@ module _ (r : RosterLists) (is : IsRoster r) where
         let v = there_some group.0 k inside in
         (v.0, (k, number, ap (λ (vs : List ℕ). slice_get vs k) whole ∙ v.1))
 
-    pub all_under : (ts : List Timed) → All (HasEventOf seen) ts → All (λ (t : Timed). (v : ℕ) × IsUnder r.under (event_of t) v) ts
+    pub all_under : (ts : List Timed) → All (HasEventOf seen) ts → All (λ (t : Timed). (v : ℕ) × IsNumberUnder r.under (event_of t) v) ts
     all_under ts all k d inside = event_under (get_or ts k d) (all k d inside)
 
     -- ---- its time

@@ -12,10 +12,7 @@ use Rattle.replies.specs.declared.refusal.Refusal.TheVariants.{NoCommand, Unknow
 use Rattle.session.specs.declared.kept_packets.AddAnswer.{AddAnswer}
 use Rattle.session.specs.declared.kept_packets.AddAnswer.TheVariants as answers
 use Rattle.replies.specs.Refusals.{refusal_line}
-use Rattle.replies.specs.Outcomes.{IsLineOf}
-use Rattle.replies.specs.declared.command.Question.{Question}
-use Rattle.replies.specs.declared.command.Question.TheVariants as questions
-use Rattle.replies.specs.CommandSeen.{question_seen}
+use Rattle.replies.specs.Outcomes.{IsOutcomeLine}
 use Rattle.traces.specs.Traces.{Traces}
 use Rattle.replies.specs.Commands.{Command, Add, Asks}
 use Rattle.replies.specs.Reply.{Found, Unread, label_at}
@@ -47,11 +44,11 @@ all_stay old new same = same ∙ sym (none_behind old)
 module _ (one : (bytes : List ℕ) (a b : captures.Capture) → Reads bytes a → Reads bytes b → a ≡ b) (held held' : Held) (files files' : FilesTold) (k before : ℕ) (u : Under) (path : List ℕ)
     (packets : List captures.Seen) (old new : List Timed) (inside : k < length held.declaration.labels) (at : slice_get held.under k ≡ Some u) (count : length u.events ≡ before)
     (stored : new ≡ old ++ packets_from k (before + 1) packets) where
-  pub under_accepted : (outcome : Outcome) → ((r : Refusal) → outcome ≡ Refused r → ⊥) → UnderAnswered k path files files' held held' (KeepsFound true held k packets outcome) (IsLineOf outcome) →
+  pub under_accepted : (outcome : Outcome) → ((r : Refusal) → outcome ≡ Refused r → ⊥) → UnderAnswered k path files files' held held' (KeepsFound true held k packets outcome) (IsOutcomeLine outcome) →
       TakesUnder k path files files' held held' old new answers.Accepted
   under_accepted (Added a) other answered d s stands =
       let x = answered d s stands in
-      let says : IsAddedLine x.3.0 = (a.events, a.messages, a.withdrawn, a.aside, a.consistent, x.3.3) in (
+      let says : IsAddedLine x.3.0 = (a, x.3.3) in (
         x.0,
         x.3.0,
         x.3.1,
@@ -70,7 +67,7 @@ abbrev pub TellsRefusal : Refusal → AddAnswer → Type 0
 TellsRefusal r answer = (old new : Traces) (text : List ℕ) → text ≡ refusal_line r → IsAnswerOf old new text [] answer
 
 pub under_refused : (held held' : Held) (files files' : FilesTold) (k : ℕ) (path : List ℕ) (Says : Found → Type 0) (old new : List Timed) (r : Refusal) (answer : AddAnswer) → TellsRefusal r answer → new ≡ old →
-    UnderAnswered k path files files' held held' Says (IsLineOf (Refused r)) → TakesUnder k path files files' held held' old new answer
+    UnderAnswered k path files files' held held' Says (IsOutcomeLine (Refused r)) → TakesUnder k path files files' held held' old new answer
 under_refused held held' files files' k path Says old new r answer tells same answered d s stands =
     let x = answered d s stands in
     (x.0, x.3.0, x.3.1, [], (x.1, x.3.2), tells s.traces x.3.1.traces x.3.0 x.3.3, all_stay old new same, x.4, x.3.4)
@@ -102,13 +99,3 @@ pub line_refused : (held : Held) (files : FilesTold) (line : List ℕ) (old new 
 line_refused held files line old new answer c asks none tells same d s stands =
     let reply = subst (λ (o : Option Command). CommandReply d files.content s o Unread (refusal_line NoCommand) s) (sym none) (refl, (refl, refl)) in
     (Unread, refusal_line NoCommand, s, [], (c, asks, reply), tells s.traces s.traces _ refl, all_stay old new same, counted_none files, stands)
-
--- questions add nothing
-pub question_adds_none : (q : Question) → only_adding (Some (question_seen q)) ≡ None
-question_adds_none (questions.Interval first second) = refl
-question_adds_none (questions.Order first second) = refl
-question_adds_none (questions.Time event) = refl
-question_adds_none questions.Merge = refl
-question_adds_none (questions.Prove first second) = refl
-question_adds_none questions.Problem = refl
-question_adds_none questions.Report = refl

@@ -13,7 +13,7 @@ use Rattle.traces.proofs.Members.{here, there, none_in, head_or_tail, first_of_p
 use Rattle.traces.proofs.MessageEnds.{sends_differ}
 use Rattle.roster.specs.declared.came.Came.{Came}
 use Rattle.roster.specs.declared.came.Partner.{Partner}
-use Rattle.roster.specs.Roster.{RosterLists, IsRoster, IsUnder}
+use Rattle.roster.specs.Roster.{RosterLists, IsRoster, IsNumberUnder}
 use Rattle.roster.proofs.Turns.{from_map, into_map}
 use Rattle.roster.specs.Told.{number_of, numbered_message}
 use Rattle.solver.specs.Solver.{SolverLists}
@@ -102,7 +102,7 @@ told_all seen r s lawful is = counted r.came ∙ exact number couples (map tells
         let (v, under) = id_under r lawful seen is.holds a.send (send_known seen a has) in
         let (w, under') = id_under r lawful seen is.holds b.send (send_known seen b has') in
         let at : v ≡ w = sym (number_is r.under a.send v under) ∙ same ∙ number_is r.under b.send w under' in
-        one_id r lawful a.send b.send w (subst (IsUnder r.under a.send) at under) under'
+        one_id r lawful a.send b.send w (subst (IsNumberUnder r.under a.send) at under) under'
 
     differ : AllPairs (λ (a b : Couple). number a ≢ number b) couples
     differ i j d less inside same = sends_differ (events_of seen) (ids_rise seen) i j d less inside

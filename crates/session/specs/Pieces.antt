@@ -1,5 +1,5 @@
 -- What a piece says, by what is kept of those before it.
-use Rattle.std.specs.Prelude.{◌≡◌, ℕ, ◌+◌, ◌^◌, ◌<◌, ◌≤◌, List, [], ◌++◌, length, map, ⊤}
+use Rattle.std.specs.Prelude.{◌≡◌, ℕ, ◌+◌, ◌<◌, ◌≤◌, List, [], ◌++◌, length, map, ⊤}
 use Rattle.event_log.specs.declared.row.Row.{Row}
 use Rattle.event_log.specs.Log.{records_of, AreRows}
 use Rattle.captures.specs.Capture as captures
@@ -12,12 +12,12 @@ use Rattle.traces.specs.declared.accepted.Stream.TheVariants as streams
 use Rattle.replies.specs.declared.refusal.Refusal.{Refusal}
 use Rattle.session.specs.declared.pieces.Piece.{Piece}
 use Rattle.session.specs.declared.pieces.Piece.TheVariants as pieces
-use Rattle.replies.specs.Reply.{IsLogRefusal, IsCaptureRefusal}
+use Rattle.replies.specs.Reply.{IsLogRefusal, IsCaptureRefusal, most_of_label}
 
 -- so many bytes more may be read
 abbrev pub HasPlaceFor : Stream → ℕ → Type 0
 HasPlaceFor streams.Log n = ⊤
-HasPlaceFor (streams.Capture tail) n = taken tail + n ≤ 2 ^ 30
+HasPlaceFor (streams.Capture tail) n = taken tail + n ≤ most_of_label
 
 -- what a tail becomes by a piece, and the packets that the piece completes, whatever the tail stood for
 abbrev pub IsFed : Tail → List ℕ → Tail → List captures.Seen → Type 0

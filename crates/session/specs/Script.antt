@@ -40,7 +40,7 @@ abbrev pub IsDone : Declaration → Devices → Devices → (List ℕ → Type 0
 IsDone d old new IsWritten = OfScript old.input.left (λ script. (length script ≤ most_taken) × (new.input.left ≡ Some []) × Replied d old new (lines_of script) IsWritten)
 
 -- so much of a script was taken, and the replies to its whole lines stand written so
-pub record IsTaken (d : Declaration) (old new : Devices) (IsWritten : List ℕ → Type 0) (script : List ℕ) : Type 0 where
+pub record IsTakenFromScript (d : Declaration) (old new : Devices) (IsWritten : List ℕ → Type 0) (script : List ℕ) : Type 0 where
   pub taken : List ℕ
   pub rest : List ℕ
   pub is : script ≡ taken ++ rest
@@ -50,7 +50,7 @@ pub record IsTaken (d : Declaration) (old new : Devices) (IsWritten : List ℕ �
 
 -- reading the script failed, and the replies to the whole lines that were taken stand written so
 abbrev pub IsScriptFault : Declaration → Devices → Devices → (List ℕ → Type 0) → Type 0
-IsScriptFault d old new IsWritten = Rose old.input.faults new.input.faults × OfScript old.input.left (IsTaken d old new IsWritten)
+IsScriptFault d old new IsWritten = Rose old.input.faults new.input.faults × OfScript old.input.left (IsTakenFromScript d old new IsWritten)
 
 -- the script has more than 2^30 bytes, and the replies to the whole lines of its first 2^30 stand written so
 abbrev pub IsTooLong : Declaration → Devices → Devices → (List ℕ → Type 0) → Type 0
@@ -62,7 +62,7 @@ abbrev pub lines_within : List ℕ → List (List ℕ)
 lines_within script = if nat_le (length script) most_taken then lines_of script else whole_lines (take most_taken script)
 
 -- the replies to the first of these lines stand written so
-pub record IsBegun (d : Declaration) (old new : Devices) (IsWritten : List ℕ → Type 0) (script : List ℕ) : Type 0 where
+pub record IsScriptBegun (d : Declaration) (old new : Devices) (IsWritten : List ℕ → Type 0) (script : List ℕ) : Type 0 where
   pub lines : List (List ℕ)
   pub more : List (List ℕ)
   pub are : lines_within script ≡ lines ++ more
@@ -70,7 +70,7 @@ pub record IsBegun (d : Declaration) (old new : Devices) (IsWritten : List ℕ �
 
 -- a write failed, and a front of the replies to the first of these lines is written
 abbrev pub IsCutOff : Declaration → Devices → Devices → Type 0
-IsCutOff d old new = Rose old.out.faults new.out.faults × OfScript old.input.left (IsBegun d old new (AppendsPrefix old.out.written new.out.written))
+IsCutOff d old new = Rose old.out.faults new.out.faults × OfScript old.input.left (IsScriptBegun d old new (AppendsPrefix old.out.written new.out.written))
 
 -- memory ran out in a line that may ask for it: the replies to the lines before it stand written so, and nothing of its own
 pub record IsInterrupted (d : Declaration) (old new : Devices) (IsWritten : List ℕ → Type 0) (script : List ℕ) : Type 0 where

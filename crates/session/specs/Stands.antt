@@ -1,5 +1,5 @@
 -- What a session holds, and what it stands for.
-use Rattle.std.specs.Prelude.{◌≡◌, ◌⊎◌, ℕ, ◌+◌, ◌*◌, ◌^◌, ◌≤◌, List, [], ◌∷◌, length, map, slice_get, Bool, true, false, Option, Some, None, IsSome, IfSome, All, Result, OnOk, IsErrOf, ⊤}
+use Rattle.std.specs.Prelude.{◌≡◌, ◌⊎◌, ℕ, ◌+◌, ◌*◌, ◌≤◌, List, [], ◌∷◌, length, map, slice_get, Bool, true, false, Option, Some, None, IsSome, IfSome, All, Result, OnOk, IsErrOf, ⊤}
 use Rattle.ports.specs.Content.{Appends, AppendsPrefix, Rose, SinkTold}
 use Rattle.ports.specs.Files.{FilesTold}
 use Rattle.captures.specs.Feeding as feeding
@@ -15,9 +15,10 @@ use Rattle.traces.specs.declared.event_id.EventId.{EventId}
 use Rattle.traces.specs.declared.accepted.Stream.{Stream}
 use Rattle.traces.specs.declared.accepted.Stream.TheVariants as streams
 use Rattle.traces.specs.Held.{passed_by}
-use Rattle.traces.specs.Traces.{Trace, Captured, Logged, size_of, seen_by, name_of, IsOfKind, event_count}
+use Rattle.traces.specs.Traces.{Trace, Captured, Logged, bytes_accepted, seen_by, name_of, IsOfKind, event_count}
 use Rattle.traces.specs.Messages.{problem_of_seen}
 use Rattle.problem_model.specs.Problem.{ProblemLists}
+use Rattle.problem_model.specs.Limits.{most_events}
 use Rattle.solver.specs.Solver.{SolverLists}
 use Rattle.roster.specs.Roster.{RosterLists, IsRoster, listed}
 use Rattle.solver.specs.Solution.{IsSolutionBy}
@@ -25,16 +26,16 @@ use Rattle.queries.specs.declared.stop.Stop.{Stop}
 use Rattle.queries.specs.declared.stop.Stop.TheVariants as stops
 use Rattle.session_answers.specs.declared.answers.Answers.{Answers}
 use Rattle.session_answers.specs.Ready.{AreSlotsOf, KeepsSource, IsAddition}
-use Rattle.replies.specs.Commands.{Command, Add, Interval, Order, Time, Merge, Prove, Keep, Problem, Report, Asks}
+use Rattle.replies.specs.Commands.{Add, Ask, Question, Asks, IsReadOff}
 use Rattle.replies.specs.declared.outcome.Aside.{Aside}
-use Rattle.replies.specs.Reply.{State, Found}
+use Rattle.replies.specs.Reply.{State, Found, most_of_label}
 use Rattle.replies.specs.Sessions.{LineReply, AreCounted}
 
 -- ---- what is kept of the bytes under a label
 -- the kind of the label
-abbrev pub kind_of : Stream → TraceKind
-kind_of streams.Log = Log
-kind_of (streams.Capture tail) = Capture
+abbrev pub kind_by_stream : Stream → TraceKind
+kind_by_stream streams.Log = Log
+kind_by_stream (streams.Capture tail) = Capture
 
 -- how many bytes wait for more; of a log none do
 abbrev pub waiting : Stream → ℕ
@@ -46,9 +47,9 @@ abbrev pub aside_in : Stream → Aside
 aside_in stream = record { pending = waiting stream; passed = passed_count (passed_by stream) }
 
 -- a capture was read no further than through so many bytes
-abbrev pub IsWithin : Stream → ℕ → Type 0
-IsWithin streams.Log size = ⊤
-IsWithin (streams.Capture tail) size = taken tail ≤ size
+abbrev pub IsReadWithin : Stream → ℕ → Type 0
+IsReadWithin streams.Log size = ⊤
+IsReadWithin (streams.Capture tail) size = taken tail ≤ size
 
 -- this is kept of what was accepted
 abbrev pub IsStreamOf : Stream → Trace → Type 0
@@ -81,16 +82,16 @@ abbrev pub problem_held : Held → ProblemLists
 problem_held h = problem_of_seen h.declaration (seen_held h.under)
 
 -- a label has at most 2^30 bytes, and what is kept of them is of no more
-abbrev pub IsUnder : Under → Type 0
-IsUnder u = (u.size ≤ 2 ^ 30) × IsWithin u.stream u.size
+abbrev pub IsLawfulUnder : Under → Type 0
+IsLawfulUnder u = (u.size ≤ most_of_label) × IsReadWithin u.stream u.size
 
 -- what the code holds under a label
 abbrev pub under_of : Accepted → Under
 under_of a = record { events = seen_events a.events.items; size = a.size; stream = a.stream }
 
 -- what the code's own parts hold
-abbrev pub held_of : Declaration → List Accepted → List EventId → Option SolverLists → Held
-held_of d accepted kept answers = record { declaration = d; under = map under_of accepted; kept = kept; answers = answers }
+abbrev pub held_parts : Declaration → List Accepted → List EventId → Option SolverLists → Held
+held_parts d accepted kept answers = record { declaration = d; under = map under_of accepted; kept = kept; answers = answers }
 
 -- ---- what stands ready
 -- there are at most eight arcs for each of so many events, withdrawn ones included
@@ -110,11 +111,11 @@ pub record IsKeptUp (h : Held) (s : SolverLists) : Type 0 where
   pub few : HasFewArcs (event_count (seen_held h.under)) s
 
 -- what a session holds is within its limits, with a place for each label, and what stands ready is of it
-pub record IsHeld (h : Held) : Type 0 where
+pub record IsHeldInSession (h : Held) : Type 0 where
   pub declared : IsDeclaration h.declaration
   pub each : length h.under ≡ length h.declaration.labels
-  pub fit : All IsUnder h.under
-  pub few : event_count (seen_held h.under) ≤ 2 ^ 21
+  pub fit : All IsLawfulUnder h.under
+  pub few : event_count (seen_held h.under) ≤ most_events
   pub kept_up : IfSome h.answers (IsKeptUp h)
 
 -- the solver of the answers, where they stand ready
@@ -131,21 +132,9 @@ IsReady h = IsSome h.answers
 abbrev pub KeepsEvent : Held → List ℕ → Type 0
 KeepsEvent h name = (k : ℕ) × (event : EventId) × (slice_get h.kept k ≡ Some event) × (name_of h.declaration event ≡ name)
 
--- what the command asks for is read off rows and values that stand ready
-abbrev pub IsAnsweredFromRows : Held → Command → Type 0
-IsAnsweredFromRows h (Add label path) = ⊥
-IsAnsweredFromRows h (Interval first second) = KeepsEvent h first ⊎ KeepsEvent h second
-IsAnsweredFromRows h (Order first second) = KeepsEvent h first ⊎ KeepsEvent h second
-IsAnsweredFromRows h (Time event) = ⊤
-IsAnsweredFromRows h Merge = ⊤
-IsAnsweredFromRows h (Prove first second) = KeepsEvent h first
-IsAnsweredFromRows h (Keep event) = ⊥
-IsAnsweredFromRows h Problem = ⊤
-IsAnsweredFromRows h Report = ⊤
-
--- the line spells such a command
+-- the line spells a question that is answered from values, and from rows of events that are kept
 abbrev pub AsksOfRows : Held → List ℕ → Type 0
-AsksOfRows h line = (c : Command) × Asks line (Some c) × IsAnsweredFromRows h c
+AsksOfRows h line = (question : Question) × Asks line (Some (Ask question)) × IsReadOff (KeepsEvent h) question
 
 -- ---- additions
 -- so it is of as many events as are held more afterwards, where answers stand ready before and after
@@ -165,7 +154,7 @@ pub record StandsFor (h : Held) (d : Declaration) (s : State) : Type 0 where
   pub labels : length s.traces ≡ length d.labels
   pub kinds : (k : ℕ) (label : Label) (trace : Trace) → slice_get d.labels k ≡ Some label → slice_get s.traces k ≡ Some trace → IsOfKind label.kind trace
   pub events : seen_held h.under ≡ seen_by d s.traces
-  pub sizes : map (λ (u : Under). u.size) h.under ≡ map size_of s.traces
+  pub sizes : map (λ (u : Under). u.size) h.under ≡ map bytes_accepted s.traces
   pub streams : (k : ℕ) (u : Under) (trace : Trace) → slice_get h.under k ≡ Some u → slice_get s.traces k ≡ Some trace → IsStreamOf u.stream trace
   pub kept : s.kept ≡ h.kept
 

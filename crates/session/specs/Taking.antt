@@ -4,12 +4,12 @@ use Rattle.ports.specs.Files.{Content, FilesTold}
 use Rattle.decl.specs.Declaration.{Declaration}
 use Rattle.mergecap.specs.MergedCapture.{Timed}
 use Rattle.traces.specs.Traces.{Traces}
-use Rattle.replies.specs.declared.outcome.Aside.{Aside}
+use Rattle.replies.specs.declared.outcome.Added.{Added}
 use Rattle.replies.specs.declared.refusal.Refusal.{Refusal}
 use Rattle.session.specs.declared.kept_packets.AddAnswer.{AddAnswer}
 use Rattle.session.specs.declared.kept_packets.AddAnswer.TheVariants.{Accepted, Refused}
 use Rattle.replies.specs.Refusals.{refusal_line}
-use Rattle.replies.specs.Commands.{Command, Add, Interval, Order, Time, Merge, Prove, Keep, Problem, Report, Asks}
+use Rattle.replies.specs.Commands.{Command, Add, Keep, Ask, Asks}
 use Rattle.replies.specs.Reply.{State, Found, added_line}
 use Rattle.replies.specs.Sessions.{CommandReply, AreCounted}
 use Rattle.session.specs.Stands.{Held, StandsFor}
@@ -19,14 +19,8 @@ use Rattle.session.specs.Taken.{BringsPackets}
 abbrev pub only_adding : Option Command → Option Command
 only_adding None = None
 only_adding (Some (Add label path)) = Some (Add label path)
-only_adding (Some (Interval first second)) = None
-only_adding (Some (Order first second)) = None
-only_adding (Some (Time event)) = None
-only_adding (Some Merge) = None
-only_adding (Some (Prove first second)) = None
 only_adding (Some (Keep event)) = None
-only_adding (Some Problem) = None
-only_adding (Some Report) = None
+only_adding (Some (Ask question)) = None
 
 -- the reply to a line where nothing but additions is asked for, and what the session then has
 abbrev pub AddLineReply : Declaration → Content → State → List ℕ → Found → List ℕ → State → Type 0
@@ -38,7 +32,7 @@ AsksToAdd line = (label : List ℕ) × (path : List ℕ) × Asks line (Some (Add
 
 -- the line says what was added
 abbrev pub IsAddedLine : List ℕ → Type 0
-IsAddedLine text = (events : ℕ) × (messages : ℕ) × (withdrawn : ℕ) × (aside : Aside) × (consistent : Bool) × (text ≡ added_line events messages withdrawn aside consistent)
+IsAddedLine text = (a : Added) × (text ≡ added_line a)
 
 -- the line tells a refusal
 abbrev pub IsRefusalLine : List ℕ → Type 0

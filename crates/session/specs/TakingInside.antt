@@ -1,5 +1,6 @@
 -- What the parts of an addition whose packets are kept promise each other.
-use Rattle.std.specs.Prelude.{◌≡◌, ℕ, ◌+◌, ◌^◌, ◌≤◌, List, [], ◌∷◌, length, slice_get, Some, Bool, true, false, ⊤}
+use Rattle.std.specs.Prelude.{◌≡◌, ℕ, ◌+◌, ◌≤◌, List, [], ◌∷◌, length, slice_get, Some, Bool, true, false, ⊤}
+use Rattle.problem_model.specs.Limits.{most_events}
 use Rattle.ports.specs.Files.{FilesTold}
 use Rattle.captures.specs.Capture as captures
 use Rattle.captures.specs.Feeding.{Tail}
@@ -42,7 +43,7 @@ WhereAdded So (Refused r) = ⊤
 
 -- where something was added, there was room for so many events
 abbrev pub HadRoom : Held → ℕ → Outcome → Type 0
-HadRoom held more = WhereAdded (event_count (seen_held held.under) + more ≤ 2 ^ 21)
+HadRoom held more = WhereAdded (event_count (seen_held held.under) + more ≤ most_events)
 
 -- where something was added, all of the piece was read, and the packets are those that it completes under the label at a place
 abbrev pub CompletesFront : Bool → List ℕ → Held → ℕ → List captures.Seen → Outcome → Type 0

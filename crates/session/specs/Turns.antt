@@ -2,7 +2,7 @@
 use Rattle.std.specs.Prelude.{◌≡◌, ℕ, ◌+◌, ◌≤◌, List, length}
 use Rattle.ports.specs.Content.{Rose, AppendsPrefix}
 use Rattle.ports.specs.Lines.{most_taken}
-use Rattle.ports.specs.Reader.{Reader, Came, Gives, Ends, BreaksOff, GoesPast}
+use Rattle.ports.specs.Reader.{Reader, Came, GivesLine, Ends, BreaksOff, GoesPast}
 use Rattle.replies.specs.Commands.{AsksForMemory}
 use Rattle.session.specs.Stands.{Held, Stepped}
 use Rattle.session.specs.Script.{Devices}
@@ -10,7 +10,7 @@ use Rattle.session.specs.declared.ended.Ended.{Ended}
 use Rattle.session.specs.declared.ended.Ended.TheVariants.{Done, ReadFault, Limit, WriteFault, Memory}
 
 -- these bytes came off the script and were counted, and no more than the most were taken in all
-pub record Counts (r r' : Reader) (old new : Devices) (bytes : List ℕ) : Type 0 where
+pub record CountsTaken (r r' : Reader) (old new : Devices) (bytes : List ℕ) : Type 0 where
   pub came : Came old.input new.input bytes
   pub counted : r'.taken ≡ r.taken + length bytes
   pub within : r'.taken ≤ most_taken
@@ -19,8 +19,8 @@ pub record Counts (r r' : Reader) (old new : Devices) (bytes : List ℕ) : Type 
 pub record TakesOff (r r' : Reader) (old new : Devices) : Type 0 where
   pub bytes : List ℕ
   pub line : List ℕ
-  pub counts : Counts r r' old new bytes
-  pub gives : Gives r r' old.input new.input bytes line
+  pub counts : CountsTaken r r' old new bytes
+  pub gives : GivesLine r r' old.input new.input bytes line
 
 -- the next line was taken off, and its reply stands written so
 pub record AnswersLine (h h' : Held) (r r' : Reader) (old new : Devices) (IsWritten : List ℕ → Type 0) : Type 0 where
@@ -36,14 +36,14 @@ pub record RunsOut (r r' : Reader) (old new : Devices) : Type 0 where
 -- no line is left
 pub record HasNoLine (r r' : Reader) (old new : Devices) : Type 0 where
   pub bytes : List ℕ
-  pub counts : Counts r r' old new bytes
+  pub counts : CountsTaken r r' old new bytes
   pub ends : Ends r old.input new.input bytes
   pub silent : new.out.written ≡ old.out.written
 
 -- reading failed in the middle of a line, or before it
 pub record FailsInLine (r r' : Reader) (old new : Devices) : Type 0 where
   pub bytes : List ℕ
-  pub counts : Counts r r' old new bytes
+  pub counts : CountsTaken r r' old new bytes
   pub breaks : BreaksOff r r' bytes
   pub rose : Rose old.input.faults new.input.faults
   pub silent : new.out.written ≡ old.out.written

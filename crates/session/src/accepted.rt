@@ -1,13 +1,16 @@
 // What was accepted under the labels.
-ghost use Rattle.std.specs.Prelude.{◌≡◌, ◌<◌, ◌≤◌, ◌+◌, ◌-◌, ◌^◌, ◌++◌, ◌&&◌, length, map, nat_le, OnOk, OnErr, IfOk};
+ghost use Rattle.std.specs.Prelude.{◌≡◌, ◌<◌, ◌≤◌, ◌+◌, ◌-◌, ◌++◌, ◌&&◌, length, map, nat_le, OnOk, OnErr, IfOk};
+ghost use Rattle.problem_model.specs.Limits.{most_events};
 ghost use Rattle.captures.specs.Capture.{passed_count};
 ghost use Rattle.traces.specs.Seen.{seen_events};
-ghost use Rattle.session.specs.Stands.{aside_in, under_of, waiting, kind_of};
+ghost use Rattle.replies.specs.Reply.{most_of_label, most_piece};
+ghost use Rattle.session.specs.Stands.{aside_in, under_of, waiting, kind_by_stream};
 ghost use Rattle.session.specs.Inside.{AreEmpty, IsNewStream, HasPlace, IsGrownAt};
 
-use crate::limits::{MOST_EVENTS, MOST_OF_LABEL, MOST_PIECE};
+use crate::limits::{MOST_OF_LABEL, MOST_PIECE};
 use captures::{CaptureStream, Passed};
 use decl::{Label, TraceKind};
+use problem_model::MOST_EVENTS;
 use replies::Aside;
 use std::alloc::{AllocError, Global};
 use traces::{Accepted, Event, Stream};
@@ -15,7 +18,7 @@ use traces::{Accepted, Event, Stream};
 // What is kept under a label of this kind of which nothing came yet.
 fn new_stream(alloc: Global, kind: TraceKind) -> Stream
     ensures new { IsNewStream result }
-    ensures kind { kind_of result ≡ kind }
+    ensures kind { kind_by_stream result ≡ kind }
 {
     match kind {
         TraceKind::Capture => Stream::Capture(CaptureStream::new(alloc)),
@@ -67,17 +70,17 @@ pub(crate) fn aside_in(stream: &Stream) -> Aside
 
 /// Whether a piece is not too long by itself, and with the bytes that its label has.
 pub(crate) fn has_place(old: u64, size: u64) -> bool
-    ensures { result ≡ (nat_le size (2 ^ 28) && nat_le (old + size) (2 ^ 30)) }
+    ensures { result ≡ (nat_le size most_piece && nat_le (old + size) most_of_label) }
 {
     size <= MOST_PIECE && old <= MOST_OF_LABEL && old + size <= MOST_OF_LABEL
 }
 
 /// How many events more there may be where there are so many.
 pub(crate) fn room_left(count: u32) -> u64
-    requires { count ≤ 2 ^ 21 }
-    ensures { result ≡ 2 ^ 21 - count }
+    requires { count ≤ most_events }
+    ensures { result ≡ most_events - count }
 {
-    MOST_EVENTS - u64::from(count)
+    MOST_EVENTS as u64 - u64::from(count)
 }
 
 // Appends events to those of a label; for want of memory all stays.

@@ -1,11 +1,12 @@
 // Additions to the labels of a session.
-ghost use Rattle.std.specs.Prelude.{◌≡◌, ◌<◌, ◌≤◌, ◌+◌, ◌^◌, [], length, Some, true, IfOk, OnOk};
+ghost use Rattle.std.specs.Prelude.{◌≡◌, ◌<◌, ◌≤◌, ◌+◌, [], length, Some, true, IfOk, OnOk};
+ghost use Rattle.problem_model.specs.Limits.{most_events};
 ghost use Rattle.ports.specs.Files.{Keeps};
 ghost use Rattle.captures.specs.Feeding.{seen_packets};
 ghost use Rattle.traces.specs.Seen.{seen_events};
 ghost use Rattle.traces.specs.Traces.{event_count};
 ghost use Rattle.replies.specs.Commands as asked;
-ghost use Rattle.replies.specs.Outcomes.{IsLineOf};
+ghost use Rattle.replies.specs.Outcomes.{IsOutcomeLine};
 ghost use Rattle.session.specs.Stands.{AddsSo, IsReady, seen_held};
 ghost use Rattle.session.specs.Inside.{HasPlace, IsStreamWithin, FrontAnswered, AcceptAnswered, CommandAnswered};
 ghost use Rattle.session.specs.TakingInside.{CompletesFront, HadRoom, KeepsFound, UnderAnswered};
@@ -17,7 +18,7 @@ use crate::labels::host_of;
 use crate::limits::MOST_PIECE;
 use crate::pieces::{Piece, read_piece};
 use atto::Steps;
-use pcap_stream::Packet;
+use captures::Packet;
 use ports::{FileFault, Files, read_file};
 use replies::{Outcome, Refusal};
 use session_answers::{decl_of, renew};
@@ -44,7 +45,7 @@ impl Session {
         steps: &mut Steps<L>,
     ) -> Result<Outcome, AllocError>
         requires { IsReady self.old }
-        ensures answers { IfOk result (λ outcome. CommandAnswered (Some (asked.Add label.now path.now)) (F.told files.old) (F.told files.new) self.old self.new (IsLineOf outcome)) }
+        ensures answers { IfOk result (λ outcome. CommandAnswered (Some (asked.Add label.now path.now)) (F.told files.old) (F.told files.new) self.old self.new (IsOutcomeLine outcome)) }
         ensures keeps { Keeps (F.told files.old) (F.told files.new) }
         ensures ready { OnOk result (IsReady self.new) }
         ensures addition { AddsSo self.old self.new steps.old steps.new }
@@ -73,7 +74,7 @@ impl Session {
         requires ready { IsReady self.old }
         requires none { packets.old.items ≡ [] }
         ensures answers { IfOk result (λ outcome. UnderAnswered k path.now (F.told files.old) (F.told files.new) self.old self.new
-            (KeepsFound keeps self.old k (seen_packets packets.new.items) outcome) (IsLineOf outcome)) }
+            (KeepsFound keeps self.old k (seen_packets packets.new.items) outcome) (IsOutcomeLine outcome)) }
         ensures room { keeps ≡ true → IfOk result (HadRoom self.old (length packets.new.items)) }
         ensures keeps { Keeps (F.told files.old) (F.told files.new) }
         ensures ready { OnOk result (IsReady self.new) }
@@ -100,7 +101,7 @@ impl Session {
         requires inside { k < length self.old.declaration.labels }
         requires ready { IsReady self.old }
         requires none { packets.old.items ≡ [] }
-        ensures answers { IfOk result (λ outcome. FrontAnswered more front.now self.old self.new k (IsLineOf outcome)) }
+        ensures answers { IfOk result (λ outcome. FrontAnswered more front.now self.old self.new k (IsOutcomeLine outcome)) }
         ensures packets { keeps ≡ true → IfOk result (CompletesFront more front.now self.old k (seen_packets packets.new.items)) }
         ensures room { keeps ≡ true → IfOk result (HadRoom self.old (length packets.new.items)) }
         ensures ready { OnOk result (IsReady self.new) }
@@ -144,9 +145,9 @@ impl Session {
         requires inside { k < length self.old.under }
         requires place { HasPlace self.old.under k size }
         requires within { IsStreamWithin self.old.under k size stream }
-        requires room { event_count (seen_held self.old.under) + length events.items ≤ 2 ^ 21 }
+        requires room { event_count (seen_held self.old.under) + length events.items ≤ most_events }
         requires ready { IsReady self.old }
-        ensures answers { IfOk result (λ outcome. AcceptAnswered self.old self.new k (seen_events events.items) size stream (IsLineOf outcome)) }
+        ensures answers { IfOk result (λ outcome. AcceptAnswered self.old self.new k (seen_events events.items) size stream (IsOutcomeLine outcome)) }
         ensures room { IfOk result (HadRoom self.old (length events.items)) }
         ensures ready { OnOk result (IsReady self.new) }
         ensures addition { AddsSo self.old self.new steps.old steps.new }

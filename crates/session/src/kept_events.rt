@@ -1,9 +1,9 @@
 // Events that are kept from now on.
 ghost use Rattle.std.specs.Prelude.{IfOk, OnOk};
-ghost use Rattle.replies.specs.Commands as asked;
-ghost use Rattle.replies.specs.Outcomes.{IsLineOf};
+ghost use Rattle.replies.specs.Commands as commands;
+ghost use Rattle.replies.specs.Outcomes.{IsOutcomeLine};
 ghost use Rattle.session.specs.Stands.{IsReady};
-ghost use Rattle.session.specs.Inside.{Asked};
+ghost use Rattle.session.specs.Inside.{UnreadAnswered};
 
 use crate::Session;
 use atto::Steps;
@@ -20,7 +20,7 @@ impl Session {
         steps: &mut Steps<L>,
     ) -> Result<Outcome, AllocError>
         requires ready { IsReady self.old }
-        ensures answers { IfOk result (λ outcome. Asked self.old self.new (asked.Keep event.now) (IsLineOf outcome)) }
+        ensures answers { IfOk result (λ outcome. UnreadAnswered self.old self.new (commands.Keep event.now) (IsOutcomeLine outcome)) }
         ensures ready { OnOk result (IsReady self.new) }
     {
         let kept = keep_event(&mut self.kept, &mut self.answers, event, steps);

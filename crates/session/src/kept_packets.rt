@@ -1,7 +1,8 @@
 // Additions of which the packets are kept.
-ghost use Rattle.std.specs.Prelude.{◌≡◌, ◌≤◌, ◌<◌, ◌+◌, ◌^◌, ◌++◌, length, IfOk, OnOk, OnErr};
+ghost use Rattle.std.specs.Prelude.{◌≡◌, ◌≤◌, ◌<◌, ◌+◌, ◌++◌, length, IfOk, OnOk, OnErr};
 ghost use Rattle.ports.specs.Files.{Keeps};
 ghost use Rattle.captures.specs.Feeding.{seen_packets};
+ghost use Rattle.replies.specs.Reply.{most_of_label};
 ghost use Rattle.mergecap.specs.Packets.{all_timed};
 ghost use Rattle.session.specs.Stands.{IsReady};
 ghost use Rattle.session.specs.Taken.{packets_from};
@@ -10,9 +11,8 @@ ghost use Rattle.session.specs.TakingInside.{TakesFile, TakesUnder};
 
 use crate::Session;
 use atto::Steps;
-use captures::captures_are_one;
+use captures::{Packet, captures_are_one};
 use mergecap::Stored;
-use pcap_stream::Packet;
 use ports::Files;
 use replies::{Command, Outcome, Refusal, RefusedText, read_command, refused_text};
 use session_answers::decl_of;
@@ -35,7 +35,7 @@ fn store(
     before: u32,
     packets: Vec<Packet>,
 ) -> Result<(), AllocError>
-    requires { before + length packets.items ≤ 2 ^ 30 }
+    requires { before + length packets.items ≤ most_of_label }
     ensures { OnOk result (all_timed kept.new.items ≡ all_timed kept.old.items ++ packets_from place (before + 1) (seen_packets packets.items)) }
 {
     let mut n = before;

@@ -5,6 +5,3 @@ pub(crate) const MOST_PIECE: u64 = 1 << 28;
 
 /// How many bytes are accepted under a label at most, so that each place in a capture is a number of 32 bits.
 pub(crate) const MOST_OF_LABEL: u64 = 1 << 30;
-
-/// How many events all labels have at most: as many as a problem has.
-pub(crate) const MOST_EVENTS: u64 = 1 << 21;

@@ -4,7 +4,7 @@ ghost use Rattle.problem_model.specs.Executions.{at};
 ghost use Rattle.mergecap.specs.Packets.{timed, all_timed};
 ghost use Rattle.solver.specs.Current.{IsCurrent};
 ghost use Rattle.queries.specs.Consistent.{IsConsistent};
-ghost use Rattle.roster.specs.Roster.{IsUnder};
+ghost use Rattle.roster.specs.Roster.{IsNumberUnder};
 ghost use Rattle.roster.specs.Rosters.{KnowsNodes};
 ghost use Rattle.session.specs.Stands.{IsReady, problem_held, seen_held};
 ghost use Rattle.session.specs.Settled.{AreSettled, HasEventOf, event_of, node_of, valued};
@@ -21,7 +21,7 @@ fn value_of(names: &Roster, solver: &Solver, event: EventId) -> i128
     requires current { IsCurrent solver.now }
     requires solved { solver.now.contradiction ≡ [] }
     requires nodes { KnowsNodes names.now solver.now.graph }
-    requires there { (v : ℕ) × IsUnder names.now.under event v }
+    requires there { (v : ℕ) × IsNumberUnder names.now.under event v }
     ensures { result ≡ at solver.now.earliest.values (node_of names.now event) }
 {
     // It tells that the roster is lawful.
@@ -35,7 +35,7 @@ fn settle_one(names: &Roster, solver: &Solver, stored: &mut Stored)
     requires current { IsCurrent solver.now }
     requires solved { solver.now.contradiction ≡ [] }
     requires nodes { KnowsNodes names.now solver.now.graph }
-    requires there { (v : ℕ) × IsUnder names.now.under (event_of (timed stored.old)) v }
+    requires there { (v : ℕ) × IsNumberUnder names.now.under (event_of (timed stored.old)) v }
     ensures { timed stored.new ≡ valued names.now solver.now (timed stored.old) }
 {
     let event = EventId {
@@ -50,7 +50,7 @@ fn settle_each(names: &Roster, solver: &Solver, kept: &mut [Stored])
     requires current { IsCurrent solver.now }
     requires solved { solver.now.contradiction ≡ [] }
     requires nodes { KnowsNodes names.now solver.now.graph }
-    requires there { All (λ t. (v : ℕ) × IsUnder names.now.under (event_of t) v) (all_timed kept.old) }
+    requires there { All (λ t. (v : ℕ) × IsNumberUnder names.now.under (event_of t) v) (all_timed kept.old) }
     ensures { all_timed kept.new ≡ map (valued names.now solver.now) (all_timed kept.old) }
 {
     for stored in kept.iter_mut() {

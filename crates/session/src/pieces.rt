@@ -1,15 +1,15 @@
 // What a piece says, by the kind of its label.
-ghost use Rattle.std.specs.Prelude.{◌≡◌, ◌≤◌, ◌+◌, ◌^◌, ℕ, [], length, IfOk};
+ghost use Rattle.std.specs.Prelude.{◌≡◌, ◌≤◌, ◌+◌, ℕ, [], length, IfOk};
 ghost use Rattle.captures.specs.Feeding.{taken, seen_packets};
 ghost use Rattle.decl.specs.Declaration.{Declaration, declaration_of};
 ghost use Rattle.traces.specs.declared.accepted.Stream.TheVariants as streams;
+ghost use Rattle.replies.specs.Reply.{most_of_label, most_piece};
 ghost use Rattle.session.specs.Pieces.{IsRead, HasPlaceFor, HasRoomFor};
 ghost use Rattle.session.specs.TakingInside.{HasPackets};
 
-use captures::CaptureStream;
+use captures::{CaptureStream, FirstPackets, Packet};
 use decl::Decl;
 use event_log::read_first_rows;
-use pcap_stream::{FirstPackets, Packet};
 use replies::{Refusal, capture_refusal, log_refusal};
 use std::alloc::{AllocError, Global};
 use traces::{Event, Stream, packet_events, row_events};
@@ -43,7 +43,7 @@ pub(crate) fn read_piece(
     packets: &mut Vec<Packet>,
 ) -> Result<Piece, AllocError>
     requires payload { decl.now.payload_bytes ≤ 64 }
-    requires short { length piece.now ≤ 2 ^ 28 }
+    requires short { length piece.now ≤ most_piece }
     requires place { HasPlaceFor stream.now (length piece.now) }
     requires none { packets.old.items ≡ [] }
     ensures read { IfOk result (λ read. IsRead (declaration_of decl.now) host room stream.now piece.now read) }
@@ -58,7 +58,7 @@ pub(crate) fn read_piece(
 
 // Reads a piece of a log.
 fn read_log(alloc: Global, piece: &[u8], room: u64) -> Result<Piece, AllocError>
-    requires { length piece.now ≤ 2 ^ 28 }
+    requires { length piece.now ≤ most_piece }
     ensures read { IfOk result (λ read. (d : Declaration) (host : ℕ) → IsRead d host room streams.Log piece.now read) }
     ensures room { IfOk result (λ read. HasRoomFor room read) }
 {
@@ -89,7 +89,7 @@ fn read_capture(
     packets: &mut Vec<Packet>,
 ) -> Result<Piece, AllocError>
     requires payload { decl.now.payload_bytes ≤ 64 }
-    requires place { taken stream.now + length piece.now ≤ 2 ^ 30 }
+    requires place { taken stream.now + length piece.now ≤ most_of_label }
     ensures read { IfOk result (λ read. IsRead (declaration_of decl.now) host room (streams.Capture stream.now) piece.now read) }
     ensures room { IfOk result (λ read. HasRoomFor room read) }
     ensures packets { IfOk result (λ read. HasPackets (streams.Capture stream.now) piece.now (seen_packets packets.new.items) read) }

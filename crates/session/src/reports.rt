@@ -1,5 +1,6 @@
 // The report on all events and on the packets that were passed over.
-ghost use Rattle.std.specs.Prelude.{◌≡◌, ◌≤◌, ◌^◌, length, map, IsErrOf};
+ghost use Rattle.std.specs.Prelude.{◌≡◌, ◌≤◌, length, map, IsErrOf};
+ghost use Rattle.problem_model.specs.Limits.{most_events};
 ghost use Rattle.ports.specs.Content.{WritesSuch};
 ghost use Rattle.decl.specs.Declaration.{IsDeclaration, declaration_of};
 ghost use Rattle.traces.specs.Traces.{event_count};
@@ -36,7 +37,7 @@ pub(crate) fn write_report<O: Sink>(
 ) -> Result<(), Stop>
     requires declared { IsDeclaration (declaration_of decl.now) }
     requires labels { length accepted.now ≡ length decl.now.labels.items }
-    requires few { event_count (seen_in accepted.now) ≤ 2 ^ 21 }
+    requires few { event_count (seen_in accepted.now) ≤ most_events }
     requires ends { AreEndsBy (map id_of roster.now.came) matcher.now (seen_in accepted.now) }
     requires solution { (l : Listed) × IsSolutionBy l (problem_of_seen (declaration_of decl.now) (seen_in accepted.now)) solver.now }
     ensures writes { WritesSuch (IsReport (declaration_of decl.now) (seen_in accepted.now) (passed_in accepted.now)) stops.WriteFault (O.told out.old) (O.told out.new) result }

@@ -4,13 +4,13 @@ ghost use Rattle.ports.specs.Content.{Writes};
 ghost use Rattle.ports.specs.Files.{Keeps};
 ghost use Rattle.decl.specs.Declaration.{IsDeclaration, declaration_of};
 ghost use Rattle.queries.specs.declared.stop.Stop.TheVariants as stops;
-ghost use Rattle.replies.specs.Commands.{TakesMemory, AsksForMemory};
-ghost use Rattle.replies.specs.CommandSeen.{question_seen};
+ghost use Rattle.replies.specs.Commands as commands;
+ghost use Rattle.replies.specs.Commands.{TakesMemory, AsksForMemory, IsReadOff, question_seen};
 ghost use Rattle.replies.specs.declared.refusal.Refusal.TheVariants as refusals;
 ghost use Rattle.replies.specs.Refusals.{refusal_line};
 ghost use Rattle.replies.specs.Sessions.{start};
-ghost use Rattle.session.specs.Stands.{WritesReply, StandsFor, Stepped, IsReady, IsKeptUp, AddsByLine, IsAnsweredFromRows, AsksOfRows};
-ghost use Rattle.session.specs.Inside.{Asked};
+ghost use Rattle.session.specs.Stands.{WritesReply, StandsFor, Stepped, IsReady, IsKeptUp, AddsByLine, KeepsEvent, AsksOfRows};
+ghost use Rattle.session.specs.Inside.{UnreadAnswered};
 
 use crate::accepted::nothing_under;
 use crate::answers::answer;
@@ -42,15 +42,15 @@ pub struct Session {
 impl Model for Session {
     ghost use Rattle.std.specs.Prelude.{◌≡◌, true};
     ghost use Rattle.traces.specs.Held.{seen_in};
-    ghost use Rattle.session.specs.Stands.{Held, IsHeld, held_of, solver_of};
+    ghost use Rattle.session.specs.Stands.{Held, IsHeldInSession, held_parts, solver_of};
     ghost use Rattle.replies.specs.Reply.{AreKept};
     ghost use Rattle.session_answers.specs.Ready.{AreAnswersOf};
 
     ghost Value = { Held };
 
-    ghost view = { λ s. held_of s.answers.graph.roster.declaration s.accepted.items s.kept.items (solver_of s.ready s.answers) };
+    ghost view = { λ s. held_parts s.answers.graph.roster.declaration s.accepted.items s.kept.items (solver_of s.ready s.answers) };
 
-    ghost invariant = { λ s. IsHeld (held_of s.answers.graph.roster.declaration s.accepted.items s.kept.items (solver_of s.ready s.answers))
+    ghost invariant = { λ s. IsHeldInSession (held_parts s.answers.graph.roster.declaration s.accepted.items s.kept.items (solver_of s.ready s.answers))
         × AreKept (seen_in s.accepted.items) s.kept.items
         × (s.ready ≡ true → AreAnswersOf (seen_in s.accepted.items) s.kept.items s.answers) };
 }
@@ -174,11 +174,11 @@ impl Session {
         steps: &mut Steps<L>,
     ) -> Result<(), Stop>
         requires { IsReady self.old }
-        ensures writes { WritesReply (Asked self.old self.new (question_seen question.entry)) (O.told out.old) (O.told out.new) result }
+        ensures writes { WritesReply (UnreadAnswered self.old self.new (commands.Ask (question_seen question.entry))) (O.told out.old) (O.told out.new) result }
         ensures ready { IsReady self.new }
-        ensures memory { IsErrOf result stops.Memory → TakesMemory (question_seen question.entry) }
+        ensures memory { IsErrOf result stops.Memory → TakesMemory (commands.Ask (question_seen question.entry)) }
         ensures untouched { IsErrOf result stops.Memory → O.told out.new ≡ O.told out.old }
-        ensures steps { IsAnsweredFromRows self.old (question_seen question.entry) → steps.new ≡ steps.old }
+        ensures steps { IsReadOff (KeepsEvent self.old) (question_seen question.entry) → steps.new ≡ steps.old }
     {
         answer(
             self.alloc,

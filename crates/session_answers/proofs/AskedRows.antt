@@ -15,32 +15,23 @@ use Rattle.problem_graph.specs.ListedStanding.{StandsForListed, IsEventAt}
 use Rattle.attain.specs.Ends.{AreEventNodes}
 use Rattle.roster.specs.Roster.{RosterLists, IsRoster, Finds, listed}
 use Rattle.solver.specs.Solver.{SolverLists}
-use Rattle.solver.specs.Changes.{LeavesTaken}
-use Rattle.solver.specs.Current.{IsCurrent}
+use Rattle.solver.specs.Changes.{LeavesTaken, LeavesAnswer}
 use Rattle.solver.specs.Solution.{IsSolutionBy}
-use Rattle.queries.specs.Asking.{IsKept, IsAtHand, IsPairAtHand, IsReadingAt, IsSourceReading}
+use Rattle.queries.specs.Asking.{HasKeptRows, IsAtHand, IsPairAtHand, IsListedReading, IsSourceReading}
 use Rattle.queries.specs.Clocks.{KeepsTime}
 use Rattle.queries.specs.Replies.{HasReading, IsTimeLine, Replies}
 use Rattle.problem.proofs.OwnReadings.{own_readings}
 use Rattle.session_answers.specs.declared.answers.Answers.{Answers}
 use Rattle.replies.specs.declared.refusal.Refusal.TheVariants.{NoSourceTime}
 use Rattle.replies.specs.Refusals.{refusal_line}
-use Rattle.replies.specs.Reply.{OfOne, IsTimeReply}
-use Rattle.session_answers.specs.Ready.{AreSlotsOf, AreAnswersOf, KeepsSource, HasSpareRows, problem_by}
-use Rattle.session_answers.specs.Keeping.{LeavesAnswer, IsCalled, HasSlotBy, IsReplyOfTwo}
+use Rattle.replies.specs.Reply.{OfOne, OfTwo, IsTimeReply}
+use Rattle.session_answers.specs.Ready.{AreSlotsOf, AreAnswersOf, KeepsSource, HasSpareRows, answers_problem}
+use Rattle.session_answers.specs.Keeping.{IsCalled, HasSlotBy}
 use Rattle.session_answers.proofs.Engines.{kept_stays}
 use Rattle.replies.proofs.Elements.{some_same}
 use Rattle.session_answers.proofs.RosterEvents.{event_place, called, unknown, one_node}
 
 -- ---- what a question leaves
-pub leaves_all : (s : SolverLists) → IsCurrent s → LeavesAnswer s s
-leaves_all s is = record {
-  answer = record { graph = refl; earliest = refl; contradiction = refl };
-  current = is;
-  kept = refl;
-  rows = record { width = refl; count = refl; taken = λ k. refl; cells = λ k taken. refl; free = refl };
-}
-
 keeps_source : (l : Listed) (p : ProblemLists) (source stamp : Option ℕ) (old new : SolverLists) → new.kept ≡ old.kept → KeepsSource l p source stamp old → KeepsSource l p source stamp new
 keeps_source l p None stamp old new same is = (is.0, ap (λ (k : KeptRows). k.source) same ∙ is.1)
 keeps_source l p (Some clock) None old new same is = (is.0, ap (λ (k : KeptRows). k.source) same ∙ is.1)
@@ -66,7 +57,7 @@ answers_left seen kept a s is leaves = record {
   graph = kept_stays seen a.graph.roster a.graph.solver s leaves.answer leaves.current is.graph;
   ends = is.ends;
   slots = subst (λ (k : KeptRows). AreSlotsOf a.graph.roster kept k.slots) (sym leaves.kept) is.slots;
-  source_slot = keeps_source (listed a.graph.roster) (problem_by a seen) a.graph.roster.declaration.source a.source a.graph.solver s leaves.kept is.source_slot;
+  source_slot = keeps_source (listed a.graph.roster) (answers_problem a seen) a.graph.roster.declaration.source a.source a.graph.solver s leaves.kept is.source_slot;
   rows = spare_left a.graph.solver s leaves.kept leaves.rows is.rows;
 }
 
@@ -99,7 +90,7 @@ module _ (r : RosterLists) (is : IsRoster r) (p : ProblemLists) (s : SolverLists
 
   -- the node of an event whose slot is known is at hand
   pub at_hand : (name : List ℕ) (event : EventId) (node : ℕ) → IsCalled r name event node → HasSlotBy r s name → IsAtHand s node
-  at_hand name event node a (other, again, b, kept) = inr (subst (λ (n : ℕ). IsKept s n) (one_node r is p readings stands.listed stands.lawful name other event again node b a) kept)
+  at_hand name event node a (other, again, b, kept) = inr (subst (λ (n : ℕ). HasKeptRows s n) (one_node r is p readings stands.listed stands.lawful name other event again node b a) kept)
 
   pub pair_at_hand : (first second : List ℕ) (event other : EventId) (node again : ℕ) → IsCalled r first event node → IsCalled r second other again → HasSlotBy r s first ⊎ HasSlotBy r s second → IsPairAtHand s node again
   pair_at_hand first second event other node again a b (inl slot) = inl (at_hand first event node a slot)
@@ -107,7 +98,7 @@ module _ (r : RosterLists) (is : IsRoster r) (p : ProblemLists) (s : SolverLists
 
   -- what was said of two events that are called so is a reply
   pub two_replied : (first second : List ℕ) (event other : EventId) (node again : ℕ) (Says : ℕ → ℕ → List ℕ → Type 0) (IsWritten : List ℕ → Type 0) → IsCalled r first event node → IsCalled r second other again →
-      ((i j : ℕ) → IsEventAt (listed r) i node → IsEventAt (listed r) j again → (text : List ℕ) × Replies p (Says i j) text × IsWritten text) → (text : List ℕ) × IsReplyOfTwo p first second Says text × IsWritten text
+      ((i j : ℕ) → IsEventAt (listed r) i node → IsEventAt (listed r) j again → (text : List ℕ) × Replies p (Says i j) text × IsWritten text) → (text : List ℕ) × OfTwo p first second Says text × IsWritten text
   two_replied first second event other node again Says IsWritten a b says =
       let x = event_called first event node a in
       let y = event_called second other again b in
@@ -121,7 +112,7 @@ contains_at {A = A} (y ∷ xs) zero x at = subst (λ (z : A). Contains (y ∷ xs
 contains_at (y ∷ xs) (suc k) x at = there y x xs (contains_at xs k x at)
 
 -- a listed reading is one of its clock
-pub listed_reading : (l : Listed) (p : ProblemLists) (s : SolverLists) (clock stamp node : ℕ) → IsSolutionBy l p s → IsReadingAt l clock stamp node → IsReading p clock stamp
+pub listed_reading : (l : Listed) (p : ProblemLists) (s : SolverLists) (clock stamp node : ℕ) → IsSolutionBy l p s → IsListedReading l clock stamp node → IsReading p clock stamp
 listed_reading l p s clock stamp node is (place, at) =
     let rs : List Reading = all_readings p.events in
     let are = own_readings p in

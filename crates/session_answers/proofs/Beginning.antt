@@ -19,7 +19,7 @@ use Rattle.session_graph.specs.Kept.{IsKeptFor}
 use Rattle.problem.specs.Listing.{Listed}
 use Rattle.queries.specs.Replies.{HasReading}
 use Rattle.session_answers.specs.declared.answers.Answers.{Answers}
-use Rattle.session_answers.specs.Ready.{AreAnswersOf, HasSpareRows, KeepsSource, problem_by}
+use Rattle.session_answers.specs.Ready.{AreAnswersOf, HasSpareRows, KeepsSource, answers_problem}
 use Rattle.session_answers.proofs.KeptNext.{grown_free, grown_long}
 use Rattle.session_answers.proofs.Slotting.{no_slots}
 
@@ -74,7 +74,7 @@ first_stands a old lawful kept ends slots source none pool stamp =
       graph = kept;
       ends = ends;
       slots = no_slots a.graph.roster a.graph.solver.kept.slots slots;
-      source_slot = subst (λ (x : Option ℕ). KeepsSource (listed a.graph.roster) (problem_by a (map (λ (l : Label). []) a.graph.roster.declaration.labels)) a.graph.roster.declaration.source x a.graph.solver) (sym stamp)
+      source_slot = subst (λ (x : Option ℕ). KeepsSource (listed a.graph.roster) (answers_problem a (map (λ (l : Label). []) a.graph.roster.declaration.labels)) a.graph.roster.declaration.source x a.graph.solver) (sym stamp)
           (no_source (listed a.graph.roster) a.graph.roster.declaration (map (λ (l : Label). []) a.graph.roster.declaration.labels) a.graph.roster.declaration.source a.graph.solver nothing source);
       rows = first_rows old a.graph.solver none slots source pool;
     }

@@ -16,7 +16,7 @@ use Rattle.repair.specs.declared.slot.Slot.{Slot}
 use Rattle.repair.specs.declared.keep.KeepError.{KeepError}
 use Rattle.repair.specs.declared.keep.KeepError.TheVariants.{Already, Full}
 use Rattle.repair.specs.Slots.{KeptRows, slot_of, all_slots, behind}
-use Rattle.repair.specs.Keeping.{IsRefused}
+use Rattle.repair.specs.Keeping.{IsKeepRefused}
 use Rattle.sync_graph.specs.Graph.{GraphLists}
 use Rattle.problem_graph.specs.ListedStanding.{StandsForListed}
 use Rattle.solver.specs.Solver.{SolverLists}
@@ -30,7 +30,7 @@ use Rattle.roster.proofs.Telling.{among}
 use Rattle.roster.proofs.Turns.{from_turn, into_turn}
 use Rattle.roster.specs.Told.{TellsMessages, messages_by_number}
 use Rattle.session_graph.specs.Kept.{IsKeptFor, IsGrownBy, KeepsReadings, KeepsRows}
-use Rattle.queries.specs.Asking.{IsReadingAt}
+use Rattle.queries.specs.Asking.{IsListedReading}
 use Rattle.queries.specs.Replies.{HasReading}
 use Rattle.session_answers.specs.Ready.{HasSpareRows, KeepsSource}
 use Rattle.session_answers.specs.Keeping.{TakesForSource, KeepsSourceBut}
@@ -38,7 +38,7 @@ use Rattle.replies.proofs.Elements.{some_same}
 
 -- ---- one node
 -- a node without a slot is not refused while there are fewer than eight
-pub not_refused : (kept : KeptRows) (node : ℕ) (e : KeepError) → IsRefused kept node e → slot_of kept node ≡ None → length kept.slots < 8 → ⊥
+pub not_refused : (kept : KeptRows) (node : ℕ) (e : KeepError) → IsKeepRefused kept node e → slot_of kept node ≡ None → length kept.slots < 8 → ⊥
 not_refused kept node (Already place) (slot, found, k, is, at) none few = let same : None ≡ Some slot = sym none ∙ found in absurd cc
 not_refused kept node Full (none', full) none few = omega (arith, full, few)
 
@@ -106,7 +106,7 @@ source_spare old new none spare slots (inr same) = subst HasSpareRows (sym same)
 
 -- ---- the source
 -- a node of a listed reading is one of the graph
-pub reading_within : (l : Listed) (p : ProblemLists) (readings : List Reading) (g : GraphLists) (clock stamp node : ℕ) → StandsForListed l p readings g → IsReadingAt l clock stamp node → node < length g.nodes
+pub reading_within : (l : Listed) (p : ProblemLists) (readings : List Reading) (g : GraphLists) (clock stamp node : ℕ) → StandsForListed l p readings g → IsListedReading l clock stamp node → node < length g.nodes
 reading_within l p readings g clock stamp node stands (place, at) =
     let k : ℕ = length l.events + place in
     let there : slice_get (listed_nodes l) k ≡ Some node = reading_node l k place (clock, stamp, node) refl at in
@@ -115,7 +115,7 @@ reading_within l p readings g clock stamp node stands (place, at) =
 
 -- a reading of a clock is listed
 pub reading_listed : (l : Listed) (p : ProblemLists) (readings : List Reading) (g : GraphLists) (clock : ℕ) → StandsForListed l p readings g → HasReading p clock →
-    (stamp : ℕ) × (node : ℕ) × IsReadingAt l clock stamp node
+    (stamp : ℕ) × (node : ℕ) × IsListedReading l clock stamp node
 reading_listed l p readings g clock stands (stamp, reading) =
     let at = place_in readings (clock, stamp) (stands.are_readings.every clock stamp reading) in
     let there : slice_get (map {A = ℕ × ℕ × ℕ} {B = Reading} (λ r. (r.0, r.1)) l.readings) at.0 ≡ Some (clock, stamp) = ap (λ (rs : List Reading). slice_get rs at.0) stands.listed.stamps ∙ at.1 in
@@ -131,7 +131,7 @@ reading_listed l p readings g clock stands (stamp, reading) =
     by (r ∷ rs) (suc k) at = let more = by rs k at in (more.0, more.1, (suc more.2.0, more.2.1))
 
 -- a reading of a clock is listed
-pub clock_listed : (r : RosterLists) (clock stamp node : ℕ) → Contains {X = Stamped} (group_at r.readings clock) (stamp, node) → IsReadingAt (listed r) clock stamp node
+pub clock_listed : (r : RosterLists) (clock stamp node : ℕ) → Contains {X = Stamped} (group_at r.readings clock) (stamp, node) → IsListedReading (listed r) clock stamp node
 clock_listed r clock stamp node has =
     let f : ℕ → Stamped → ℕ × ℕ × ℕ = λ c s. (c, s.0, s.1) in
     let none : 0 + clock ≡ clock = omega arith in
@@ -139,7 +139,7 @@ clock_listed r clock stamp node has =
     place_in {X = ℕ × ℕ × ℕ} (listed r).readings (clock, stamp, node) (subst (λ (c : ℕ). Contains {X = ℕ × ℕ × ℕ} (listed r).readings (c, stamp, node)) none there)
 
 -- what is listed of a clock is a reading of it
-pub listed_clock : (r : RosterLists) (clock stamp node : ℕ) → IsReadingAt (listed r) clock stamp node → HasStamp (group_at r.readings clock) stamp
+pub listed_clock : (r : RosterLists) (clock stamp node : ℕ) → IsListedReading (listed r) clock stamp node → HasStamp (group_at r.readings clock) stamp
 listed_clock r clock stamp node (place, at) =
     let f : ℕ → Stamped → ℕ × ℕ × ℕ = λ c s. (c, s.0, s.1) in
     let t = from_turn {T = Stamped} {X = ℕ × ℕ × ℕ} f 0 r.readings (clock, stamp, node) (among {X = ℕ × ℕ × ℕ} (listed r).readings place (clock, stamp, node) at) in
@@ -154,7 +154,7 @@ source_inside clocks None is = tt
 source_inside clocks (Some clock) is = slice_get_within clocks clock is.0 is.1
 
 -- readings of a roster stay where more come
-pub reading_kept : (old new : RosterLists) (clock stamp node : ℕ) → KeepsReadings old new → IsReadingAt (listed old) clock stamp node → IsReadingAt (listed new) clock stamp node
+pub reading_kept : (old new : RosterLists) (clock stamp node : ℕ) → KeepsReadings old new → IsListedReading (listed old) clock stamp node → IsListedReading (listed new) clock stamp node
 reading_kept old new clock stamp node keeps (place, at) =
     let f : ℕ → Stamped → ℕ × ℕ × ℕ = λ c s. (c, s.0, s.1) in
     let t = from_turn {T = Stamped} {X = ℕ × ℕ × ℕ} f 0 old.readings (clock, stamp, node) (among {X = ℕ × ℕ × ℕ} (listed old).readings place (clock, stamp, node) at) in

@@ -4,6 +4,7 @@ use Rattle.std.specs.List.{slice_index_or}
 use Rattle.std.specs.Option.{is_some}
 use Rattle.std.proofs.lemmas.List.{length-map}
 use Rattle.std.proofs.lemmas.Option.{slice_get-map, slice_get-get_or, slice_get_within, get_or_from_slice_get}
+use Rattle.problem_model.specs.Limits.{most_events}
 use Rattle.repair.specs.declared.slot.Slot.{Slot}
 use Rattle.decl.specs.Declaration.{Declaration}
 use Rattle.traces.specs.Seen.{Seen, seen_event, seen_events}
@@ -20,9 +21,9 @@ use Rattle.roster.specs.Roster.{IsRoster, id_of, listed}
 use Rattle.solver.specs.Solver.{SolverLists}
 use Rattle.session_graph.specs.Kept.{IsKeptFor, KeepsEvents, KeepsRows, KeepsReadings}
 use Rattle.session_answers.specs.declared.answers.Answers.{Answers}
-use Rattle.session_answers.specs.Ready.{AreAnswersOf, AreSlotsOf, KeepsSource, problem_by}
+use Rattle.session_answers.specs.Ready.{AreAnswersOf, AreSlotsOf, KeepsSource, answers_problem}
 use Rattle.queries.specs.Replies.{HasReading}
-use Rattle.session_answers.specs.Keeping.{Brings, AreAnswersBut, KeepsSourceBut, TakesForSource, clock_at}
+use Rattle.session_answers.specs.Keeping.{BringsEvents, AreAnswersBut, KeepsSourceBut, TakesForSource, clock_at}
 use Rattle.session_answers.proofs.Engines.{kept_stays, spare_kept, source_so_far, source_spare, source_whole, source_other, source_slotless}
 use Rattle.session_answers.proofs.FirstReading.{reading_before}
 use Rattle.replies.proofs.Elements.{some_same}
@@ -60,7 +61,7 @@ set_there [] k x inside = absurd (omega (arith, inside))
 set_there (y ∷ xs) zero x inside = refl
 set_there (y ∷ xs) (suc k) x inside = set_there xs k x (omega (arith, inside))
 
-module _ (accepted : List Accepted) (before : List (List Seen)) (k more : ℕ) (b : Brings before (seen_in accepted) k more) where
+module _ (accepted : List Accepted) (before : List (List Seen)) (k more : ℕ) (b : BringsEvents before (seen_in accepted) k more) where
   inside : k < length before
   inside = slice_get_within before k b.own b.was
 
@@ -90,12 +91,12 @@ module _ (accepted : List Accepted) (before : List (List Seen)) (k more : ℕ) (
       let many = b.count in
       omega (arith, count, many)
 
-  pub few_came : (kept : List EventId) (a : Answers) (n : ℕ) → AreAnswersOf before kept a → n ≡ more → event_count (seen_in accepted) ≤ 2 ^ 21 → length a.graph.roster.came + n ≤ 2 ^ 21
+  pub few_came : (kept : List EventId) (a : Answers) (n : ℕ) → AreAnswersOf before kept a → n ≡ more → event_count (seen_in accepted) ≤ most_events → length a.graph.roster.came + n ≤ most_events
   few_came kept a n are same few =
       let count = count_then in
       let came : length a.graph.roster.came ≡ event_count before = came_count a.graph.roster are.lawful before are.graph.holds in
-      let all : event_count before + more ≤ 2 ^ 21 = subst (λ (m : ℕ). m ≤ 2 ^ 21) count few in
-      subst (λ (m : ℕ). m + n ≤ 2 ^ 21) (sym came) (subst (λ (m : ℕ). event_count before + m ≤ 2 ^ 21) (sym same) all)
+      let all : event_count before + more ≤ most_events = subst (λ (m : ℕ). m ≤ most_events) count few in
+      subst (λ (m : ℕ). m + n ≤ most_events) (sym came) (subst (λ (m : ℕ). event_count before + m ≤ most_events) (sym same) all)
 
   pub label_inside : (kept : List EventId) (a : Answers) → AreAnswersOf before kept a → k < length a.graph.roster.declaration.labels
   label_inside kept a are =
@@ -110,23 +111,23 @@ module _ (accepted : List Accepted) (before : List (List Seen)) (k more : ℕ) (
       omega (arith, below, limit)
 
 -- a clock that has a reading then had one, or is that of the label
-pub reads_then : (d : Declaration) (before after : List (List Seen)) (k more : ℕ) → Brings before after k more → (clock : ℕ) → HasReading (problem_of_seen d after) clock →
+pub reads_then : (d : Declaration) (before after : List (List Seen)) (k more : ℕ) → BringsEvents before after k more → (clock : ℕ) → HasReading (problem_of_seen d after) clock →
     HasReading (problem_of_seen d before) clock ⊎ (clock_at d k ≡ clock)
 reads_then d before after k more b clock has = reading_before d before k (b.own ++ b.events) clock (subst (λ (x : List (List Seen)). HasReading (problem_of_seen d x) clock) b.is has)
 
 -- ---- the answers then
 pub so_far : (label : ℕ) (before : List (List Seen)) (after : List (List Seen)) (kept : List EventId) (a new : Answers) → AreAnswersOf before kept a → IsRoster new.graph.roster → IsKeptFor after new.graph.roster new.graph.solver →
     AreEndsBy (map id_of new.graph.roster.came) new.graph.matcher after → new.graph.roster.declaration ≡ a.graph.roster.declaration → KeepsEvents a.graph.roster new.graph.roster → KeepsReadings a.graph.roster new.graph.roster → KeepsRows a.graph.solver new.graph.solver → new.source ≡ a.source →
-    ((clock : ℕ) → HasReading (problem_by a after) clock → HasReading (problem_by a before) clock ⊎ (clock_at a.graph.roster.declaration label ≡ clock)) → AreAnswersBut label after kept new
+    ((clock : ℕ) → HasReading (answers_problem a after) clock → HasReading (answers_problem a before) clock ⊎ (clock_at a.graph.roster.declaration label ≡ clock)) → AreAnswersBut label after kept new
 so_far label before after kept a new are lawful graph ends declared events readings rows stamp reads = record {
   lawful = lawful;
   graph = graph;
   ends = ends;
   slots = subst (λ (xs : List Slot). AreSlotsOf new.graph.roster kept xs) (sym rows.slots) (slots_kept a.graph.roster new.graph.roster kept a.graph.solver.kept.slots events are.slots);
-  source_slot = subst (λ (x : Option ℕ). KeepsSourceBut (clock_at new.graph.roster.declaration label) (listed new.graph.roster) (problem_by new after) new.graph.roster.declaration.source x new.graph.solver) (sym stamp)
-      (source_so_far a.graph.roster new.graph.roster (problem_by a before) (problem_by new after) (clock_at new.graph.roster.declaration label) a.graph.roster.declaration.source new.graph.roster.declaration.source a.source a.graph.solver
+  source_slot = subst (λ (x : Option ℕ). KeepsSourceBut (clock_at new.graph.roster.declaration label) (listed new.graph.roster) (answers_problem new after) new.graph.roster.declaration.source x new.graph.solver) (sym stamp)
+      (source_so_far a.graph.roster new.graph.roster (answers_problem a before) (answers_problem new after) (clock_at new.graph.roster.declaration label) a.graph.roster.declaration.source new.graph.roster.declaration.source a.source a.graph.solver
       new.graph.solver readings (ap (λ (d : Declaration). d.source) declared) rows.source
-      (subst (λ (d : Declaration). (clock : ℕ) → HasReading (problem_of_seen d after) clock → HasReading (problem_by a before) clock ⊎ (clock_at d label ≡ clock)) (sym declared) reads) are.source_slot);
+      (subst (λ (d : Declaration). (clock : ℕ) → HasReading (problem_of_seen d after) clock → HasReading (answers_problem a before) clock ⊎ (clock_at d label ≡ clock)) (sym declared) reads) are.source_slot);
   rows = spare_kept a.graph.solver new.graph.solver rows are.rows;
 }
 
@@ -136,27 +137,27 @@ some_of None is = absurd cc
 
 module _ (label : ℕ) (seen : List (List Seen)) (kept : List EventId) (a : Answers) (are : AreAnswersBut label seen kept a) where
   abbrev Keeps : Option ℕ → Type 0
-  Keeps stamp = KeepsSourceBut (clock_at a.graph.roster.declaration label) (listed a.graph.roster) (problem_by a seen) a.graph.roster.declaration.source stamp a.graph.solver
+  Keeps stamp = KeepsSourceBut (clock_at a.graph.roster.declaration label) (listed a.graph.roster) (answers_problem a seen) a.graph.roster.declaration.source stamp a.graph.solver
 
-  whole : KeepsSource (listed a.graph.roster) (problem_by a seen) a.graph.roster.declaration.source a.source a.graph.solver → AreAnswersOf seen kept a
+  whole : KeepsSource (listed a.graph.roster) (answers_problem a seen) a.graph.roster.declaration.source a.source a.graph.solver → AreAnswersOf seen kept a
   whole source = record { lawful = are.lawful; graph = are.graph; ends = are.ends; slots = are.slots; source_slot = source; rows = are.rows }
 
   -- nothing is lacking where the source has its stamp
   pub known_source : (stamp : ℕ) → a.source ≡ Some stamp → AreAnswersOf seen kept a
-  known_source stamp is = whole (subst (λ (x : Option ℕ). KeepsSource (listed a.graph.roster) (problem_by a seen) a.graph.roster.declaration.source x a.graph.solver) (sym is)
-      (source_whole (clock_at a.graph.roster.declaration label) (listed a.graph.roster) (problem_by a seen) a.graph.roster.declaration.source stamp a.graph.solver (subst Keeps is are.source_slot)))
+  known_source stamp is = whole (subst (λ (x : Option ℕ). KeepsSource (listed a.graph.roster) (answers_problem a seen) a.graph.roster.declaration.source x a.graph.solver) (sym is)
+      (source_whole (clock_at a.graph.roster.declaration label) (listed a.graph.roster) (answers_problem a seen) a.graph.roster.declaration.source stamp a.graph.solver (subst Keeps is are.source_slot)))
 
   -- nor where it is another clock than the label's
   pub other_source : a.source ≡ None → (a.graph.roster.declaration.source ≡ Some (clock_at a.graph.roster.declaration label) → ⊥) → AreAnswersOf seen kept a
-  other_source none other = whole (subst (λ (x : Option ℕ). KeepsSource (listed a.graph.roster) (problem_by a seen) a.graph.roster.declaration.source x a.graph.solver) (sym none)
-      (source_other (clock_at a.graph.roster.declaration label) (listed a.graph.roster) (problem_by a seen) a.graph.roster.declaration.source a.graph.solver other (subst Keeps none are.source_slot)))
+  other_source none other = whole (subst (λ (x : Option ℕ). KeepsSource (listed a.graph.roster) (answers_problem a seen) a.graph.roster.declaration.source x a.graph.solver) (sym none)
+      (source_other (clock_at a.graph.roster.declaration label) (listed a.graph.roster) (answers_problem a seen) a.graph.roster.declaration.source a.graph.solver other (subst Keeps none are.source_slot)))
 
   pub no_source_slot : a.source ≡ None → a.graph.solver.kept.source ≡ None
-  no_source_slot none = source_slotless (clock_at a.graph.roster.declaration label) (listed a.graph.roster) (problem_by a seen) a.graph.roster.declaration.source a.graph.solver (subst Keeps none are.source_slot)
+  no_source_slot none = source_slotless (clock_at a.graph.roster.declaration label) (listed a.graph.roster) (answers_problem a seen) a.graph.roster.declaration.source a.graph.solver (subst Keeps none are.source_slot)
 
   -- nor where it was looked for
   pub looked_for : (s : SolverLists) (stamp : Option ℕ) → a.source ≡ None → TakesForSource a.graph.solver s → s.kept.slots ≡ a.graph.solver.kept.slots →
-      KeepsSource (listed a.graph.roster) (problem_by a seen) a.graph.roster.declaration.source stamp s → AreAnswersOf seen kept (record { graph = record { roster = a.graph.roster; matcher = a.graph.matcher; solver = s }; source = stamp })
+      KeepsSource (listed a.graph.roster) (answers_problem a seen) a.graph.roster.declaration.source stamp s → AreAnswersOf seen kept (record { graph = record { roster = a.graph.roster; matcher = a.graph.matcher; solver = s }; source = stamp })
   looked_for s stamp none takes slots source = record {
     lawful = are.lawful;
     graph = graph takes;

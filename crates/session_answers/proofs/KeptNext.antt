@@ -9,10 +9,10 @@ use Rattle.problem.specs.Listing.{Listed, all_readings}
 use Rattle.roster.specs.Roster.{Finds, listed}
 use Rattle.traces.specs.Seen.{Seen}
 use Rattle.traces.specs.declared.event_id.EventId.{EventId}
-use Rattle.row_pool.specs.Pool.{Pool, PoolRow, free_rows, widened, free_row, grown}
+use Rattle.row_pool.specs.Pool.{Pool, PoolRow, free_rows, widened_row, free_row, grown}
 use Rattle.repair.specs.declared.slot.Slot.{Slot}
 use Rattle.repair.specs.Slots.{slot_of}
-use Rattle.repair.specs.Keeping.{IsPlaceOf}
+use Rattle.repair.specs.Keeping.{IsSlotNumber}
 use Rattle.solver.specs.Solver.{SolverLists}
 use Rattle.session_answers.specs.declared.answers.Answers.{Answers}
 use Rattle.replies.specs.declared.outcome.Outcome.{Outcome}
@@ -21,7 +21,7 @@ use Rattle.replies.specs.declared.refusal.Refusal.TheVariants.{UnknownEvent}
 use Rattle.replies.specs.Refusals.{refusal_line}
 use Rattle.replies.specs.Outcomes.{outcome_line}
 use Rattle.replies.specs.Reply.{IsPlacedAt, IsAmong, KeepReply, kept_line, AreKept}
-use Rattle.session_answers.specs.Ready.{AreSlotsOf, AreAnswersOf, KeepsSource, problem_by}
+use Rattle.session_answers.specs.Ready.{AreSlotsOf, AreAnswersOf, KeepsSource, answers_problem}
 use Rattle.session_answers.specs.Keeping.{IsKeptNext, IsCalled}
 use Rattle.problem.proofs.OwnReadings.{own_readings}
 use Rattle.session_answers.proofs.RosterEvents.{event_place, placed_at, called}
@@ -34,13 +34,13 @@ use Rattle.session_answers.proofs.AskedRows.{none_called, with_engine}
 abbrev one_free : PoolRow → ℕ
 one_free row = cond (not row.taken) 1 0
 
-widened_free : (width : ℕ) (rows : List PoolRow) → count_by (λ (row : PoolRow). not row.taken) (map (widened width) rows) ≡ count_by (λ (row : PoolRow). not row.taken) rows
+widened_free : (width : ℕ) (rows : List PoolRow) → count_by (λ (row : PoolRow). not row.taken) (map (widened_row width) rows) ≡ count_by (λ (row : PoolRow). not row.taken) rows
 widened_free width [] = refl
 widened_free width (r ∷ rows) =
-    let new = sum_by-cons one_free (widened width r) (map (widened width) rows) in
+    let new = sum_by-cons one_free (widened_row width r) (map (widened_row width) rows) in
     let old = sum_by-cons one_free r rows in
     let rest = widened_free width rows in
-    let same : one_free (widened width r) ≡ one_free r = refl in
+    let same : one_free (widened_row width r) ≡ one_free r = refl in
     omega (arith, new, old, rest, same)
 
 count_free : (n width : ℕ) → count_by (λ (row : PoolRow). not row.taken) (replicate n (free_row width)) ≡ n
@@ -54,7 +54,7 @@ count_free (suc n) width =
 pub grown_free : (pool new : Pool) (rows nodes : ℕ) → new ≡ grown pool rows nodes → free_rows new ≡ free_rows pool + (rows - length pool.rows)
 grown_free pool new rows nodes is =
     let width : ℕ = max pool.width nodes in
-    let parts = sum_by-append one_free (map (widened width) pool.rows) (replicate (rows - length pool.rows) (free_row width)) in
+    let parts = sum_by-append one_free (map (widened_row width) pool.rows) (replicate (rows - length pool.rows) (free_row width)) in
     let old = widened_free width pool.rows in
     let more = count_free (rows - length pool.rows) width in
     ap free_rows is ∙ omega (arith, parts, old, more)
@@ -62,8 +62,8 @@ grown_free pool new rows nodes is =
 pub grown_long : (pool new : Pool) (rows nodes : ℕ) → new ≡ grown pool rows nodes → length new.rows ≡ length pool.rows + (rows - length pool.rows)
 grown_long pool new rows nodes is =
     let width : ℕ = max pool.width nodes in
-    let parts = length-append (map (widened width) pool.rows) (replicate (rows - length pool.rows) (free_row width)) in
-    let old = length-map pool.rows (widened width) in
+    let parts = length-append (map (widened_row width) pool.rows) (replicate (rows - length pool.rows) (free_row width)) in
+    let old = length-map pool.rows (widened_row width) in
     let more = length-replicate (rows - length pool.rows) (free_row width) in
     ap (λ (p : Pool). length p.rows) is ∙ omega (arith, parts, old, more)
 
@@ -76,7 +76,7 @@ same_source l p (Some clock) (Some stamp) old new same keeps = (keeps.0, same �
 module _ (seen : List (List Seen)) (kept : List EventId) (a : Answers) (are : AreAnswersOf seen kept a) (lawful : AreKept seen kept) (name : List ℕ) (event : EventId) (node : ℕ)
     (found : IsCalled a.graph.roster name event node) where
   abbrev problem : ProblemLists
-  problem = problem_by a seen
+  problem = answers_problem a seen
 
   abbrev place : ℕ
   place = (event_place a.graph.roster are.lawful found.known.number found.known.came found.known.there).0
@@ -88,7 +88,7 @@ module _ (seen : List (List Seen)) (kept : List EventId) (a : Answers) (are : Ar
   at = placed_at a.graph.roster are.lawful seen are.graph.holds event node found.known
 
   -- the event has a slot
-  pub kept_again : (slot : ℕ) → IsPlaceOf a.graph.solver.kept node slot → KeepReply problem seen kept name (kept_line slot) kept
+  pub kept_again : (slot : ℕ) → IsSlotNumber a.graph.solver.kept node slot → KeepReply problem seen kept name (kept_line slot) kept
   kept_again slot (x, here, k, is, there) =
       inl (place, event, named, at, inl (k, has_place a.graph.roster are.lawful a.graph.solver.graph are.graph.grown.knows kept a.graph.solver.kept.slots are.slots node event found.known k x there here, ap kept_line is, refl))
 
@@ -134,5 +134,5 @@ ready_after kept kept' a name event node found (Ok outcome) s is = λ seen lawfu
 ready_after kept kept' a name event node found (Err e) s is = tt
 
 pub unknown_kept : (seen : List (List Seen)) (kept : List EventId) (a : Answers) → AreAnswersOf seen kept a → (name : List ℕ) → Finds a.graph.roster name None →
-    KeepReply (problem_by a seen) seen kept name (refusal_line UnknownEvent) kept
-unknown_kept seen kept a are name none = inr (none_called a.graph.roster are.lawful (problem_by a seen) a.graph.solver are.graph.solution name none, refl, refl)
+    KeepReply (answers_problem a seen) seen kept name (refusal_line UnknownEvent) kept
+unknown_kept seen kept a are name none = inr (none_called a.graph.roster are.lawful (answers_problem a seen) a.graph.solver are.graph.solution name none, refl, refl)

@@ -21,7 +21,7 @@ use Rattle.roster.specs.Groups.{with_more}
 use Rattle.roster.specs.Roster.{IsRoster, id_of, listed}
 use Rattle.session_answers.specs.declared.answers.Answers.{Answers}
 use Rattle.session_answers.specs.Ready.{AreAnswersOf, KeepsSource, IsAddition}
-use Rattle.session_answers.specs.Keeping.{AreAnswersBut, Brings, BringsSource}
+use Rattle.session_answers.specs.Keeping.{AreAnswersBut, BringsEvents, BringsSource}
 use Rattle.replies.proofs.Elements.{some_same}
 use Rattle.session_answers.proofs.AskedRows.{listed_reading}
 use Rattle.session_answers.proofs.Entering.{brought, more_is, reads_then, so_far}
@@ -61,12 +61,12 @@ nothing_of [] n long none = refl
 nothing_of (x ∷ xs) n long none = absurd (omega (arith, long, none))
 
 -- without a new event all events are those from before
-same_events : (before after : List (List Seen)) (k more : ℕ) → Brings before after k more → more ≡ 0 → after ≡ before
+same_events : (before after : List (List Seen)) (k more : ℕ) → BringsEvents before after k more → more ≡ 0 → after ≡ before
 same_events before after k more b none =
     b.is ∙ ap (λ (x : List Seen). slice_set before k (b.own ++ x)) (nothing_of b.events more b.count none) ∙ ap (λ (x : List Seen). slice_set before k x) (append-nil b.own) ∙ set_back before k b.own b.was
 
 -- so the source has its slot or none as before
-pub source_idle : (before after : List (List Seen)) (kept : List EventId) (a new : Answers) (k more : ℕ) → AreAnswersOf before kept a → AreAnswersOf after kept new → Brings before after k more →
+pub source_idle : (before after : List (List Seen)) (kept : List EventId) (a new : Answers) (k more : ℕ) → AreAnswersOf before kept a → AreAnswersOf after kept new → BringsEvents before after k more →
     new.graph.roster.declaration ≡ a.graph.roster.declaration → ((slot : Slot) → a.graph.solver.kept.source ≡ Some slot → new.graph.solver.kept.source ≡ Some slot) → more ≡ 0 → new.graph.solver.kept.source ≡ a.graph.solver.kept.source
 source_idle before after kept a new k more are are' b declared stays none =
     source_same before kept a new are (subst (λ (x : List (List Seen)). AreAnswersOf x kept new) (same_events before after k more b none) are') declared stays
@@ -100,11 +100,11 @@ addition_is events n old mid new first between last count rows some few nothing 
 module _ (accepted : List Accepted) (k more : ℕ) (under : Accepted) (at : slice_get accepted k ≡ Some under) (events : List Seen)
     (last : (own came : List Seen) → seen_events under.events.items ≡ own ++ came → length came ≡ more → events ≡ came) where
   -- all events are then those before and these
-  pub all_then : (before : List (List Seen)) → Brings before (seen_in accepted) k more → with_more before k events ≡ seen_in accepted
+  pub all_then : (before : List (List Seen)) → BringsEvents before (seen_in accepted) k more → with_more before k events ≡ seen_in accepted
   all_then before b = more_is accepted before k more b events (last b.own b.events (brought accepted before k more b under at) b.count)
 
   -- where the graph was brought these events, the answers are those of all but for the source
-  pub but_source : (before : List (List Seen)) (kept : List EventId) (a new : Answers) → AreAnswersOf before kept a → Brings before (seen_in accepted) k more → IsRoster new.graph.roster →
+  pub but_source : (before : List (List Seen)) (kept : List EventId) (a new : Answers) → AreAnswersOf before kept a → BringsEvents before (seen_in accepted) k more → IsRoster new.graph.roster →
       ((seen : List (List Seen)) → IsKeptFor seen a.graph.roster a.graph.solver → AreEndsBy (map id_of a.graph.roster.came) a.graph.matcher seen → IsKeptFor (with_more seen k events) new.graph.roster new.graph.solver) →
       ((seen : List (List Seen)) → IsKeptFor seen a.graph.roster a.graph.solver → AreEndsBy (map id_of a.graph.roster.came) a.graph.matcher seen → AreEndsBy (map id_of new.graph.roster.came) new.graph.matcher (with_more seen k events)) →
       new.graph.roster.declaration ≡ a.graph.roster.declaration → KeepsEvents a.graph.roster new.graph.roster → KeepsReadings a.graph.roster new.graph.roster → KeepsRows a.graph.solver new.graph.solver → new.source ≡ a.source →

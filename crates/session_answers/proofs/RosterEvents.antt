@@ -19,7 +19,7 @@ use Rattle.problem_graph.specs.ListedProblem.{IsListedBy}
 use Rattle.problem_graph.specs.ListedStanding.{IsEventAt}
 use Rattle.roster.specs.declared.came.Came.{Came}
 use Rattle.roster.specs.Groups.{total, sizes_of, group_at, IsPlaceOf}
-use Rattle.roster.specs.Roster.{RosterLists, IsRoster, Holds, Finds, IsUnder, id_of, no_event, event_at, listed}
+use Rattle.roster.specs.Roster.{RosterLists, IsRoster, HoldsEvents, Finds, IsNumberUnder, id_of, no_event, event_at, listed}
 use Rattle.roster.proofs.Telling.{among}
 use Rattle.roster.proofs.Turns.{from_turn, in_turn_at}
 use Rattle.roster.specs.Rosters.{KnowsNodes}
@@ -89,8 +89,8 @@ module _ (r : RosterLists) (is : IsRoster r) where
   -- an event has one node
   pub node_of_one : (event : EventId) (n m : ℕ) → HasNodeOf r event n → HasNodeOf r event m → n ≡ m
   node_of_one event n m a b =
-      let x : IsUnder r.under event a.number = subst (λ (i : EventId). IsUnder r.under i a.number) a.id_is (is.every a.number a.came a.there) in
-      let y : IsUnder r.under event b.number = subst (λ (i : EventId). IsUnder r.under i b.number) b.id_is (is.every b.number b.came b.there) in
+      let x : IsNumberUnder r.under event a.number = subst (λ (i : EventId). IsNumberUnder r.under i a.number) a.id_is (is.every a.number a.came a.there) in
+      let y : IsNumberUnder r.under event b.number = subst (λ (i : EventId). IsNumberUnder r.under i b.number) b.id_is (is.every b.number b.came b.there) in
       let s : suc x.0 ≡ suc y.0 = sym x.1 ∙ y.1 in
       let k : x.0 ≡ y.0 = omega (arith, s) in
       let number : a.number ≡ b.number = some_same a.number b.number (sym x.2 ∙ ap (λ (j : ℕ). slice_get (group_at r.under event.label) j) k ∙ y.2) in
@@ -126,7 +126,7 @@ module _ (r : RosterLists) (is : IsRoster r) where
   }
 
   -- ---- what the roster holds
-  module _ (seen : List (List Seen)) (holds : Holds r seen) where
+  module _ (seen : List (List Seen)) (holds : HoldsEvents r seen) where
     pub sizes_are : sizes_of r.under ≡ map (λ (ss : List Seen). length ss) seen
     sizes_are = lengths (λ (v : ℕ). (event_at r.came v).stamp) r.under seen holds
 

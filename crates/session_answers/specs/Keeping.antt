@@ -1,30 +1,27 @@
 -- What keeping nodes and asking questions change of a solver.
-use Rattle.std.specs.Prelude.{◌≡◌, ◌⊎◌, ℕ, ◌+◌, ◌<◌, List, [], ◌∷◌, ◌++◌, length, map, slice_get, slice_set, Option, Some, None, ⊤}
+use Rattle.std.specs.Prelude.{◌≡◌, ◌⊎◌, ℕ, ◌+◌, ◌<◌, List, [], ◌∷◌, ◌++◌, length, map, slice_get, slice_set, Option, Some, None}
 use Rattle.row_pool.specs.Pool.{free_rows}
 use Rattle.repair.specs.declared.slot.Slot.{Slot}
 use Rattle.solver.specs.Solver.{SolverLists}
-use Rattle.solver.specs.Changes.{KeepsAnswer, LeavesTaken}
+use Rattle.solver.specs.Changes.{KeepsAnswer}
 use Rattle.solver.specs.Current.{IsCurrent}
 use Rattle.problem.specs.Listing.{Listed}
 use Rattle.roster.specs.Roster.{RosterLists, IsRoster, id_of, listed}
 use Rattle.session_graph.specs.Kept.{IsKeptFor}
-use Rattle.queries.specs.Asking.{IsKept, IsSourceReading}
+use Rattle.queries.specs.Asking.{HasKeptRows, IsSourceReading}
 use Rattle.traces.specs.Seen.{Seen}
 use Rattle.msg_match.specs.Ends.{AreEndsBy}
 use Rattle.traces.specs.declared.event_id.EventId.{EventId}
 use Rattle.decl.specs.Declaration.{Declaration}
 use Rattle.problem_model.specs.Problem.{ProblemLists}
-use Rattle.queries.specs.Replies.{HasReading, Replies}
-use Rattle.problem.specs.Line.{HasEvent, IsUnknown}
-use Rattle.replies.specs.Refusals.{refusal_line}
+use Rattle.queries.specs.Replies.{HasReading}
 use Rattle.traces.specs.Traces.{name_of, clock_by}
-use Rattle.replies.specs.declared.refusal.Refusal.TheVariants.{UnknownEvent, EightAreKept}
+use Rattle.replies.specs.declared.refusal.Refusal.TheVariants.{EightAreKept}
 use Rattle.replies.specs.declared.outcome.Outcome.{Outcome}
 use Rattle.replies.specs.declared.outcome.Outcome.TheVariants.{Added, Kept, Refused}
 use Rattle.replies.specs.Reply.{most_kept}
 use Rattle.session_answers.specs.declared.answers.Answers.{Answers}
-use Rattle.session_answers.specs.Ready.{HasNodeOf, AreSlotsOf, HasSpareRows, problem_by}
-use Rattle.replies.specs.Commands.{Command, Add, Interval, Order, Time, Merge, Prove, Keep, Problem, Report}
+use Rattle.session_answers.specs.Ready.{HasNodeOf, AreSlotsOf, HasSpareRows, answers_problem}
 
 -- what is known of the graph stays, and so many free rows are taken
 pub record TakesFree (taken : ℕ) (old new : SolverLists) : Type 0 where
@@ -56,13 +53,6 @@ IsKeptNext event node kept kept' old new (Kept slot) = (length kept < most_kept)
     × HasNextSlot node old new × KeepsAnswer old new × IsCurrent new × HasSpareRows new
 IsKeptNext event node kept kept' old new (Refused r) = (r ≡ EightAreKept) × (length kept ≡ most_kept) × (kept' ≡ kept) × (new ≡ old)
 
--- what is known of the graph, the slots and their rows stay
-pub record LeavesAnswer (old new : SolverLists) : Type 0 where
-  pub answer : KeepsAnswer old new
-  pub current : IsCurrent new
-  pub kept : new.kept ≡ old.kept
-  pub rows : LeavesTaken old.pool new.pool
-
 -- the event has this name, and the roster this node of it
 pub record IsCalled (r : RosterLists) (name : List ℕ) (event : EventId) (node : ℕ) : Type 0 where
   pub known : HasNodeOf r event node
@@ -70,11 +60,11 @@ pub record IsCalled (r : RosterLists) (name : List ℕ) (event : EventId) (node 
 
 -- the node of the event of this name has a slot
 abbrev pub HasSlotBy : RosterLists → SolverLists → List ℕ → Type 0
-HasSlotBy r s name = (event : EventId) × (node : ℕ) × IsCalled r name event node × IsKept s node
+HasSlotBy r s name = (event : EventId) × (node : ℕ) × IsCalled r name event node × HasKeptRows s node
 
 -- ---- more events
 -- the events of each label are these with so many more under one of them
-pub record Brings (before after : List (List Seen)) (label more : ℕ) : Type 0 where
+pub record BringsEvents (before after : List (List Seen)) (label more : ℕ) : Type 0 where
   pub own : List Seen
   pub events : List Seen
   pub count : length events ≡ more
@@ -98,24 +88,5 @@ pub record AreAnswersBut (label : ℕ) (seen : List (List Seen)) (kept : List Ev
   pub graph : IsKeptFor seen a.graph.roster a.graph.solver
   pub ends : AreEndsBy (map id_of a.graph.roster.came) a.graph.matcher seen
   pub slots : AreSlotsOf a.graph.roster kept a.graph.solver.kept.slots
-  pub source_slot : KeepsSourceBut (clock_at a.graph.roster.declaration label) (listed a.graph.roster) (problem_by a seen) a.graph.roster.declaration.source a.source a.graph.solver
+  pub source_slot : KeepsSourceBut (clock_at a.graph.roster.declaration label) (listed a.graph.roster) (answers_problem a seen) a.graph.roster.declaration.source a.source a.graph.solver
   pub rows : HasSpareRows a.graph.solver
-
--- ---- questions
--- what is asked of two events by their names, or the refusal where one is unknown
-abbrev pub IsReplyOfTwo : ProblemLists → List ℕ → List ℕ → (ℕ → ℕ → List ℕ → Type 0) → List ℕ → Type 0
-IsReplyOfTwo p first second Says text =
-    ((i : ℕ) × (j : ℕ) × HasEvent p i first × HasEvent p j second × Replies p (Says i j) text)
-    ⊎ ((IsUnknown p first ⊎ IsUnknown p second) × (text ≡ refusal_line UnknownEvent))
-
--- what the command asks for is read off rows of slots, and values
-abbrev pub IsAnsweredFromSlots : RosterLists → SolverLists → Command → Type 0
-IsAnsweredFromSlots r s (Add label path) = ⊥
-IsAnsweredFromSlots r s (Interval first second) = HasSlotBy r s first ⊎ HasSlotBy r s second
-IsAnsweredFromSlots r s (Order first second) = HasSlotBy r s first ⊎ HasSlotBy r s second
-IsAnsweredFromSlots r s (Time event) = ⊤
-IsAnsweredFromSlots r s Merge = ⊤
-IsAnsweredFromSlots r s (Prove first second) = HasSlotBy r s first
-IsAnsweredFromSlots r s (Keep event) = ⊥
-IsAnsweredFromSlots r s Problem = ⊤
-IsAnsweredFromSlots r s Report = ⊤

@@ -1,5 +1,6 @@
 // What stands ready for questions.
-ghost use Rattle.std.specs.Prelude.{◌≡◌, ◌<◌, ◌≤◌, ◌+◌, ◌++◌, ◌*◌, ◌^◌, ◌↔◌, List, [], Some, length, map, IfOk, OnOk, IsTrue};
+ghost use Rattle.std.specs.Prelude.{◌≡◌, ◌<◌, ◌≤◌, ◌+◌, ◌++◌, ◌*◌, ◌↔◌, List, [], Some, length, map, IfOk, OnOk, IsTrue};
+ghost use Rattle.problem_model.specs.Limits.{most_events};
 ghost use Rattle.decl.specs.declared.items.Label.{Label};
 ghost use Rattle.decl.specs.Declaration.{IsDeclaration, declaration_of};
 ghost use Rattle.traces.specs.Seen.{Seen, seen_events};
@@ -10,8 +11,8 @@ ghost use Rattle.msg_match.specs.Ends.{IsChange};
 ghost use Rattle.roster.specs.Roster.{IsRoster};
 ghost use Rattle.queries.specs.Consistent.{IsConsistent};
 ghost use Rattle.replies.specs.Reply.{most_kept};
-ghost use Rattle.session_answers.specs.Ready.{AreAnswersOf, IsAddition, problem_by};
-ghost use Rattle.session_answers.specs.Keeping.{AreAnswersBut, Brings, BringsSource, clock_at};
+ghost use Rattle.session_answers.specs.Ready.{AreAnswersOf, IsAddition, answers_problem};
+ghost use Rattle.session_answers.specs.Keeping.{AreAnswersBut, BringsEvents, BringsSource, clock_at};
 
 use crate::slots::keep_source;
 use atto::{Nano, Steps};
@@ -131,13 +132,13 @@ pub fn renew<L: Ledger>(
     steps: &mut Steps<L>,
 ) -> Result<Renewed, AllocError>
     requires inside { k < length accepted.now }
-    requires few { event_count (seen_in accepted.now) ≤ 2 ^ 21 }
-    requires brings { (before : List (List Seen)) × (kept : List EventId) × AreAnswersOf before kept answers.old × Brings before (seen_in accepted.now) k more }
+    requires few { event_count (seen_in accepted.now) ≤ most_events }
+    requires brings { (before : List (List Seen)) × (kept : List EventId) × AreAnswersOf before kept answers.old × BringsEvents before (seen_in accepted.now) k more }
     ensures declaration { answers.new.graph.roster.declaration ≡ answers.old.graph.roster.declaration }
-    ensures consistent { IfOk result (λ renewed. IsConsistent (problem_by answers.new (seen_in accepted.now)) renewed.consistent) }
-    ensures changed { IfOk result (λ renewed. (before : List (List Seen)) (kept : List EventId) → AreAnswersOf before kept answers.old → Brings before (seen_in accepted.now) k more
+    ensures consistent { IfOk result (λ renewed. IsConsistent (answers_problem answers.new (seen_in accepted.now)) renewed.consistent) }
+    ensures changed { IfOk result (λ renewed. (before : List (List Seen)) (kept : List EventId) → AreAnswersOf before kept answers.old → BringsEvents before (seen_in accepted.now) k more
         → IsChange before (seen_in accepted.now) renewed.changed) }
-    ensures ready { OnOk result ((before : List (List Seen)) (kept : List EventId) → AreAnswersOf before kept answers.old → Brings before (seen_in accepted.now) k more
+    ensures ready { OnOk result ((before : List (List Seen)) (kept : List EventId) → AreAnswersOf before kept answers.old → BringsEvents before (seen_in accepted.now) k more
         → AreAnswersOf (seen_in accepted.now) kept answers.new) }
     ensures addition { OnOk result (IsAddition more answers.old.graph.solver answers.new.graph.solver steps.old steps.new) }
 {

@@ -5,7 +5,7 @@ ghost use Rattle.repair.specs.Slots.{slot_of};
 ghost use Rattle.solver.specs.Current.{IsCurrent};
 ghost use Rattle.replies.specs.Outcomes.{outcome_line};
 ghost use Rattle.replies.specs.Reply.{AreKept, KeepReply, most_kept};
-ghost use Rattle.session_answers.specs.Ready.{AreAnswersOf, HasSpareRows, problem_by};
+ghost use Rattle.session_answers.specs.Ready.{AreAnswersOf, HasSpareRows, answers_problem};
 ghost use Rattle.session_answers.specs.Keeping.{IsKeptNext};
 
 use crate::answers::{Answers, rows_for};
@@ -58,7 +58,7 @@ pub fn keep_event<L: Ledger>(
 ) -> Result<Outcome, AllocError>
     requires ready { (seen : List (List Seen)) × AreKept seen kept.old.items × AreAnswersOf seen kept.old.items answers.old }
     ensures replies { (seen : List (List Seen)) → AreKept seen kept.old.items → AreAnswersOf seen kept.old.items answers.old
-        → IfOk result (λ outcome. KeepReply (problem_by answers.old seen) seen kept.old.items name.now (outcome_line outcome) kept.new.items) }
+        → IfOk result (λ outcome. KeepReply (answers_problem answers.old seen) seen kept.old.items name.now (outcome_line outcome) kept.new.items) }
     ensures roster { answers.new.graph.roster ≡ answers.old.graph.roster }
     ensures matcher { answers.new.graph.matcher ≡ answers.old.graph.matcher }
     ensures kept { (seen : List (List Seen)) → AreKept seen kept.old.items → AreAnswersOf seen kept.old.items answers.old → AreKept seen kept.new.items }

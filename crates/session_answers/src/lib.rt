@@ -2,8 +2,8 @@
 //! and of the source.
 //!
 //! `renew` brings the events and messages of an addition into the graph, and gives the source its rows when its first reading
-//! comes. `keep_event` gives an event its rows. `ask_interval`, `ask_order`, `ask_proof` and `ask_time` answer questions about
-//! events by their names.
+//! comes. `keep_event` gives an event its rows. `ask_comparison`, `ask_proof` and `ask_time` answer questions about events by
+//! their names.
 #![tactic(auto)]
 
 mod answers;
@@ -14,4 +14,4 @@ mod slots;
 
 pub use answers::{Answers, Renewed, decl_of, first_answers, renew};
 pub use kept_events::keep_event;
-pub use questions::{ask_interval, ask_order, ask_proof, ask_time};
+pub use questions::{ask_comparison, ask_proof, ask_time};

@@ -4,27 +4,28 @@ ghost use Rattle.problem_model.specs.Problem.{ProblemLists};
 ghost use Rattle.ports.specs.Content.{Writes};
 ghost use Rattle.row_pool.specs.Pool.{free_rows};
 ghost use Rattle.roster.specs.Roster.{listed};
+ghost use Rattle.solver.specs.Changes.{LeavesAnswer};
 ghost use Rattle.solver.specs.Solution.{IsSolutionBy};
 ghost use Rattle.queries.specs.Clocks.{KeepsTime};
-ghost use Rattle.queries.specs.Replies.{IsIntervalLine, IsOrderLine, IsProofText};
-ghost use Rattle.replies.specs.Reply.{IsTimeReply, OfOne};
+ghost use Rattle.queries.specs.Replies.{IsComparisonLine, IsProofText};
+ghost use Rattle.replies.specs.Reply.{IsTimeReply, OfOne, OfTwo};
 ghost use Rattle.session_answers.specs.Ready.{KeepsSource};
-ghost use Rattle.session_answers.specs.Keeping.{HasSlotBy, LeavesAnswer, IsReplyOfTwo};
+ghost use Rattle.session_answers.specs.Keeping.{HasSlotBy};
 
 use crate::events::{find_event, two_events};
 use atto::{Nano, Steps};
 use ports::{Failed, Sink};
-use queries::{write_interval, write_order, write_proof, write_time};
+use queries::{Asked, Comparison, write_comparison, write_proof, write_time};
 use replies::{Refusal, write_refusal};
 use roster::Roster;
 use solver::Solver;
 use std::sync::ledger::Ledger;
 
-/// Writes the interval from the first event to the second, or the refusal where there is no such event. `Failed` comes only where
-/// a write fails.
-pub fn ask_interval<O: Sink, L: Ledger>(
+/// Writes what is asked of two events, or the refusal where there is no such event. `Failed` comes only where a write fails.
+pub fn ask_comparison<O: Sink, L: Ledger>(
     names: &Roster,
     solver: &mut Solver,
+    asked: Asked,
     first: &[u8],
     second: &[u8],
     out: &mut O,
@@ -33,38 +34,19 @@ pub fn ask_interval<O: Sink, L: Ledger>(
     requires solution { (p : ProblemLists) × IsSolutionBy (listed names.now) p solver.old }
     requires free { 2 ≤ free_rows solver.old.pool }
     ensures writes { (p : ProblemLists) → IsSolutionBy (listed names.now) p solver.old
-        → (text : List ℕ) × IsReplyOfTwo p first.now second.now (IsIntervalLine p) text × Writes text (O.told out.old) (O.told out.new) result }
+        → (text : List ℕ) × OfTwo p first.now second.now (IsComparisonLine asked p) text × Writes text (O.told out.old) (O.told out.new) result }
     ensures leaves { LeavesAnswer solver.old solver.new }
     ensures steps { HasSlotBy names.now solver.old first.now ⊎ HasSlotBy names.now solver.old second.now → steps.new ≡ steps.old }
 {
-    // It tells that the roster is lawful.
-    let _ = names.decl();
     match two_events(names, first, second) {
-        Some((from, to)) => write_interval(names, solver, from, to, out, steps),
-        None => write_refusal(Refusal::UnknownEvent, out),
-    }
-}
-
-/// Writes the order of two events, or the refusal where there is no such event. `Failed` comes only where a write fails.
-pub fn ask_order<O: Sink, L: Ledger>(
-    names: &Roster,
-    solver: &mut Solver,
-    first: &[u8],
-    second: &[u8],
-    out: &mut O,
-    steps: &mut Steps<L>,
-) -> Result<(), Failed>
-    requires solution { (p : ProblemLists) × IsSolutionBy (listed names.now) p solver.old }
-    requires free { 2 ≤ free_rows solver.old.pool }
-    ensures writes { (p : ProblemLists) → IsSolutionBy (listed names.now) p solver.old
-        → (text : List ℕ) × IsReplyOfTwo p first.now second.now (IsOrderLine p) text × Writes text (O.told out.old) (O.told out.new) result }
-    ensures leaves { LeavesAnswer solver.old solver.new }
-    ensures steps { HasSlotBy names.now solver.old first.now ⊎ HasSlotBy names.now solver.old second.now → steps.new ≡ steps.old }
-{
-    // It tells that the roster is lawful.
-    let _ = names.decl();
-    match two_events(names, first, second) {
-        Some((from, to)) => write_order(names, solver, from, to, out, steps),
+        Some((from, to)) => {
+            let question = Comparison {
+                asked,
+                first: from,
+                second: to,
+            };
+            write_comparison(names, solver, question, out, steps)
+        }
         None => write_refusal(Refusal::UnknownEvent, out),
     }
 }
@@ -82,12 +64,10 @@ pub fn ask_proof<O: Sink, L: Ledger>(
     requires solution { (p : ProblemLists) × IsSolutionBy (listed names.now) p solver.old }
     requires free { 2 ≤ free_rows solver.old.pool }
     ensures writes { (p : ProblemLists) → IsSolutionBy (listed names.now) p solver.old
-        → (text : List ℕ) × IsReplyOfTwo p first.now second.now (IsProofText p) text × Writes text (O.told out.old) (O.told out.new) result }
+        → (text : List ℕ) × OfTwo p first.now second.now (IsProofText p) text × Writes text (O.told out.old) (O.told out.new) result }
     ensures leaves { LeavesAnswer solver.old solver.new }
     ensures steps { HasSlotBy names.now solver.old first.now → steps.new ≡ steps.old }
 {
-    // It tells that the roster is lawful.
-    let _ = names.decl();
     match two_events(names, first, second) {
         Some((from, to)) => write_proof(names, solver, from, to, out, steps),
         None => write_refusal(Refusal::UnknownEvent, out),
@@ -108,8 +88,6 @@ pub fn ask_time<O: Sink>(
         → KeepsSource (listed names.now) p declared source solver.now
         → (text : List ℕ) × OfOne p event.now (IsTimeReply p declared) text × Writes text (O.told out.old) (O.told out.new) result }
 {
-    // It tells that the roster is lawful.
-    let _ = names.decl();
     match find_event(names, event) {
         Some((_, node)) => match source {
             Some(stamp) => write_time(names, solver, stamp, node, out),

@@ -6,7 +6,7 @@ ghost use Rattle.repair.specs.Slots.{slot_of};
 ghost use Rattle.solver.specs.Current.{IsCurrent};
 ghost use Rattle.roster.specs.Roster.{listed};
 ghost use Rattle.solver.specs.Solution.{IsSolutionBy};
-ghost use Rattle.queries.specs.Asking.{IsReadingAt};
+ghost use Rattle.queries.specs.Asking.{IsListedReading};
 ghost use Rattle.session_answers.specs.Ready.{KeepsSource};
 ghost use Rattle.session_answers.specs.Keeping.{TakesFree, TakesForSource, HasNextSlot};
 
@@ -35,8 +35,8 @@ pub(crate) fn keep_node<L: Ledger>(solver: &mut Solver, node: u32, steps: &mut S
 // The first reading of a clock, by its stamp, in ns, and its node; None exactly where it has none.
 fn first_reading(roster: &Roster, clock: u32) -> Option<(Nano, u32)>
     requires { clock < length roster.now.declaration.clocks }
-    ensures some { IfSome result (λ reading. IsReadingAt (listed roster.now) clock reading.0 reading.1) }
-    ensures none { IfNone result ((stamp node : ℕ) → IsReadingAt (listed roster.now) clock stamp node → ⊥) }
+    ensures some { IfSome result (λ reading. IsListedReading (listed roster.now) clock reading.0 reading.1) }
+    ensures none { IfNone result ((stamp node : ℕ) → IsListedReading (listed roster.now) clock stamp node → ⊥) }
 {
     let stamp = roster.first_stamp(clock)?;
     let node = roster.reading_node(clock, stamp)?;

@@ -1,5 +1,5 @@
 -- What a trial comes to, from what its session answers.
-use Rattle.std.proofs.Common.{◌≡◌, MatchBool, inl, inr, ℕ, ◌<◌, nat_le, ◌&&◌, List, [], ◌∷◌, length, map, count_by, Bool, true, false, Option, Some, All, codes, refl, ◌∙◌, ap, subst, arith}
+use Rattle.std.proofs.Common.{◌≡◌, MatchBool, ℕ, ◌<◌, nat_le, ◌&&◌, List, [], ◌∷◌, length, map, count_by, Bool, true, false, Option, Some, All, codes, refl, ◌∙◌, ap, subst, arith}
 use Rattle.std.specs.Int.{IsInRange}
 use Rattle.std.specs.List.{concat, range_with_len, list_all}
 use Rattle.std.proofs.lemmas.List.Elements.{All-nil, All-cons}
@@ -7,27 +7,26 @@ use Rattle.ports.specs.Files.{Content}
 use Rattle.ports.specs.Memory.{bytes_of}
 use Rattle.line_format.specs.Words.{words}
 use Rattle.decl.specs.Declaration.{Declaration}
-use Rattle.decl.specs.Walk.{Declares}
-use Rattle.problem_model.specs.Problem.{ProblemLists}
+use Rattle.decl.specs.Walk.{IsDocumentOf}
 use Rattle.ports.specs.Lines.{lines_of}
 use Rattle.traces.specs.Seen.{Seen}
 use Rattle.traces.specs.Traces.{event_count, events_of}
-use Rattle.traces.specs.Messages.{messages_of, problem_of}
+use Rattle.traces.specs.Messages.{messages_of}
 use Rattle.trial.specs.Declaration.{declaration_text}
 use Rattle.trial.specs.Workload.{files_of, script_of, HasFiles}
-use Rattle.queries.specs.Replies.{IsIntervalLine}
-use Rattle.replies.specs.Commands.{Command, Interval, IsWord, command_words, Asks}
+use Rattle.queries.specs.declared.comparison.Asked.TheVariants.{Interval}
+use Rattle.replies.specs.Commands.{Command, Ask, Compare, IsWord, command_words, Asks}
 use Rattle.replies.specs.declared.refusal.Refusal.TheVariants.{NoCommand}
-use Rattle.replies.specs.Reply.{State, Found, Unread, Refuses, OfTwo, Reply}
+use Rattle.replies.specs.Reply.{State, Found, Unread, Refuses, Reply}
 use Rattle.replies.specs.Sessions.{Session, LineReply, CommandReply, AreCounted, start, is_failed}
 use Rattle.session.specs.Stands.{Held, seen_held}
-use Rattle.trial_session.specs.Logs.{LogsState, told_of}
-use Rattle.trial_session.specs.Answering.{Answers}
+use Rattle.trial_session.specs.Logs.{LogsState, logs_told}
+use Rattle.trial_session.specs.Answering.{AnswersLines}
 use Rattle.trial_session.specs.Trial.{files_at, IsConducted, first_event, AreIntervals, IsTrial}
 
 -- ---- the files
 -- of files of which no read fails, none is said to have failed
-pub none_failed : (founds : List Found) (old new : LogsState) → AreCounted founds (told_of old) (told_of new) → count_by is_failed founds ≡ 0
+pub none_failed : (founds : List Found) (old new : LogsState) → AreCounted founds (logs_told old) (logs_told new) → count_by is_failed founds ≡ 0
 none_failed founds old new counted = let few = counted.failed (omega arith) in omega (arith, few)
 
 -- files with the same bytes at each path
@@ -35,8 +34,8 @@ pub files_same : (f g : List ℕ → Option (List ℕ)) → ((path : List ℕ) �
 files_same f g same = λ i path. same path i
 
 -- ---- the script
-pub conducted : (n : ℕ) (d : Declaration) (script : List ℕ) (held : Held) (old new : LogsState) (before after : Option (List ℕ)) → Declares declaration_text d → script ≡ script_of n → HasFiles old.puts (files_of n)
-    → (a : Answers d (start d) (lines_of script) held (told_of old) (told_of new) before after) → IsConducted n d a.state
+pub conducted : (n : ℕ) (d : Declaration) (script : List ℕ) (held : Held) (old new : LogsState) (before after : Option (List ℕ)) → IsDocumentOf declaration_text d → script ≡ script_of n → HasFiles old.puts (files_of n)
+    → (a : AnswersLines d (start d) (lines_of script) held (logs_told old) (logs_told new) before after) → IsConducted n d a.state
 conducted n d script held old new before after declares is has a = record {
   declared = declares;
   founds = a.founds;
@@ -50,7 +49,7 @@ conducted n d script held old new before after declares is has a = record {
 -- ---- the questions
 -- what is asked of a host
 abbrev ask : ℕ → Command
-ask host = Interval (first_event 0) (first_event host)
+ask host = Ask (Compare Interval (first_event 0) (first_event host))
 
 abbrev ask_line : ℕ → List ℕ
 ask_line host = words (command_words (ask host))
@@ -107,10 +106,6 @@ questions = codes "interval h0#1 h1#1\ninterval h0#1 h2#1\ninterval h0#1 h3#1\ni
 seven_lines : lines_of questions ≡ map ask_line (range_with_len 1 7)
 seven_lines = refl
 
-of_two_stays : (p : ProblemLists) (first second : List ℕ) (Says : ℕ → ℕ → List ℕ → Type 0) (s s' : State) (text : List ℕ) → OfTwo p first second Says s text s' → (s' ≡ s) × OfTwo p first second Says s text s
-of_two_stays p first second Says s s' text (inl (i, j, one, two, replies, same)) = (same, inl (i, j, one, two, replies, refl))
-of_two_stays p first second Says s s' text (inr (unknown, refused)) = (refused.1, inr (unknown, (refused.0, refl)))
-
 -- the law that a line asks for one command
 abbrev OneCommand : Type 0
 OneCommand = (line : List ℕ) (a b : Option Command) → Asks line a → Asks line b → a ≡ b
@@ -122,12 +117,10 @@ of_true false P Q is holds = absurd cc
 -- a reply to such a line is one to its question, and nothing changes
 reply_of : OneCommand → (d : Declaration) (files : Content) (s s' : State) (host : ℕ) (text : List ℕ) (found : Found) → IsAsked host → LineReply d files s (ask_line host) found text s' → (s' ≡ s) × Reply d s (ask host) Unread text s
 reply_of one d files s s' host text found asked reply =
-    let p = problem_of d s.traces in
     let told = of_true (nat_le (length (ask_line host)) 4096) ((c : Option Command) × Asks (ask_line host) c × CommandReply d files s c found text s') ((found ≡ Unread) × Refuses s NoCommand text s') asked.0 reply in
     let is : told.0 ≡ Some (ask host) = one (ask_line host) told.0 (Some (ask host)) told.1 asked.1 in
     let answer : CommandReply d files s (Some (ask host)) found text s' = subst (λ (c : Option Command). CommandReply d files s c found text s') is told.2 in
-    let stays = of_two_stays p (first_event 0) (first_event host) (IsIntervalLine p) s s' text answer.1.1 in
-    (stays.0, (refl, stays.1))
+    (answer.1.1, (refl, refl, answer.1.2))
 
 intervals_of : OneCommand → (d : Declaration) (files : Content) (s s' : State) (hosts : List ℕ) (founds : List Found) (texts : List (List ℕ)) → AreAsked hosts → Session d files s (map ask_line hosts) founds texts s' → AreIntervals d s hosts texts
 intervals_of one d files s s' [] [] [] asked session = tt
@@ -144,10 +137,10 @@ same_some x y e = cc
 
 -- ---- the whole
 module _ (one : OneCommand) (n : ℕ) (d : Declaration) (events messages : ℕ) (script replies : List ℕ) (mid end : Held) (files files' files'' : LogsState) (written : Option (List ℕ)) where
-  pub concluded : Declares declaration_text d → script ≡ script_of n → HasFiles files.puts (files_of n)
-      → (a : Answers d (start d) (lines_of script) mid (told_of files) (told_of files') (Some []) written)
+  pub concluded : IsDocumentOf declaration_text d → script ≡ script_of n → HasFiles files.puts (files_of n)
+      → (a : AnswersLines d (start d) (lines_of script) mid (logs_told files) (logs_told files') (Some []) written)
       → events ≡ event_count (seen_held mid.under) → messages ≡ length (messages_of (events_of (seen_held mid.under)))
-      → Answers d a.state (lines_of questions) end (told_of files') (told_of files'') (Some []) (Some replies)
+      → AnswersLines d a.state (lines_of questions) end (logs_told files') (logs_told files'') (Some []) (Some replies)
       → IsTrial n events messages replies
   concluded declares is has a counts couples b = record {
     declaration = d;
@@ -156,7 +149,7 @@ module _ (one : OneCommand) (n : ℕ) (d : Declaration) (events messages : ℕ) 
     all_events = counts ∙ ap event_count a.stands.events;
     all_messages = couples ∙ ap (λ (seen : List (List Seen)). length (messages_of (events_of seen))) a.stands.events;
     texts = b.texts;
-    intervals = intervals_of one d (told_of files').content a.state b.state (range_with_len 1 7) b.founds b.texts seven_asked
-        (subst (λ (ls : List (List ℕ)). Session d (told_of files').content a.state ls b.founds b.texts b.state) seven_lines b.session);
+    intervals = intervals_of one d (logs_told files').content a.state b.state (range_with_len 1 7) b.founds b.texts seven_asked
+        (subst (λ (ls : List (List ℕ)). Session d (logs_told files').content a.state ls b.founds b.texts b.state) seven_lines b.session);
     are = same_some replies (concat b.texts) b.written;
   }

@@ -10,10 +10,10 @@ use Rattle.replies.specs.Reply.{State}
 use Rattle.replies.specs.Sessions.{LineReply}
 use Rattle.session.specs.Stands.{Held, StandsFor, Stepped}
 use Rattle.session.proofs.Replies.{session_more, counted_more, counted_none, concat_more}
-use Rattle.trial_session.specs.Answering.{Answers}
+use Rattle.trial_session.specs.Answering.{AnswersLines}
 
 -- no line was answered yet
-pub answers_none : (d : Declaration) (s : State) (held : Held) (now : FilesTold) (written : Option (List ℕ)) → StandsFor held d s → Answers d s [] held now now written written
+pub answers_none : (d : Declaration) (s : State) (held : Held) (now : FilesTold) (written : Option (List ℕ)) → StandsFor held d s → AnswersLines d s [] held now now written written
 answers_none d s held now written stands = record {
   founds = [];
   texts = [];
@@ -26,8 +26,8 @@ answers_none d s held now written stands = record {
 
 -- one line more is answered
 module _ (d : Declaration) (s : State) (done : List (List ℕ)) (line : List ℕ) (held held' : Held) (old mid new : FilesTold) (before between after : Option (List ℕ)) where
-  pub answers_more : Answers d s done held old mid before between → Keeps old mid → Keeps mid new → Stepped line mid new held held' (Appends between after) →
-      Answers d s (done ++ line ∷ []) held' old new before after
+  pub answers_more : AnswersLines d s done held old mid before between → Keeps old mid → Keeps mid new → Stepped line mid new held held' (Appends between after) →
+      AnswersLines d s (done ++ line ∷ []) held' old new before after
   answers_more so_far kept keeps stepped =
       let step = stepped d so_far.state so_far.stands in
       let reply = subst (λ (content : Content). LineReply d content so_far.state line step.0 step.1 step.2) kept.same step.3 in
@@ -43,7 +43,7 @@ module _ (d : Declaration) (s : State) (done : List (List ℕ)) (line : List ℕ
 
 -- the lines that are done, and those that are left
 abbrev pub IsOver : Declaration → State → List ℕ → List ℕ → Held → FilesTold → FilesTold → Option (List ℕ) → Option (List ℕ) → Type 0
-IsOver d s all rest held old new before after = (done : List (List ℕ)) × (lines_of all ≡ done ++ lines_of rest) × Answers d s done held old new before after
+IsOver d s all rest held old new before after = (done : List (List ℕ)) × (lines_of all ≡ done ++ lines_of rest) × AnswersLines d s done held old new before after
 
 pub over_none : (d : Declaration) (s : State) (all : List ℕ) (held : Held) (now : FilesTold) (written : Option (List ℕ)) → StandsFor held d s → IsOver d s all all held now now written written
 over_none d s all held now written stands = ([], refl, answers_none d s held now written stands)
@@ -58,6 +58,6 @@ over_more d s all rest line more held held' old mid new before between after ove
 )
 
 pub over_all : (d : Declaration) (s : State) (all rest : List ℕ) (held : Held) (old new : FilesTold) (before after : Option (List ℕ)) →
-    IsOver d s all rest held old new before after → rest ≡ [] → Answers d s (lines_of all) held old new before after
+    IsOver d s all rest held old new before after → rest ≡ [] → AnswersLines d s (lines_of all) held old new before after
 over_all d s all rest held old new before after over none =
-    subst (λ (ls : List (List ℕ)). Answers d s ls held old new before after) (sym (over.1 ∙ ap (λ (bytes : List ℕ). over.0 ++ lines_of bytes) none ∙ append-nil over.0)) over.2
+    subst (λ (ls : List (List ℕ)). AnswersLines d s ls held old new before after) (sym (over.1 ∙ ap (λ (bytes : List ℕ). over.0 ++ lines_of bytes) none ∙ append-nil over.0)) over.2

@@ -9,7 +9,7 @@ use Rattle.replies.specs.Sessions.{Session, AreCounted}
 use Rattle.session.specs.Stands.{Held, StandsFor}
 
 -- from this state on each line has its reply, in order, all of them stand written, and what is held stands for what follows
-pub record Answers (d : Declaration) (s : State) (lines : List (List ℕ)) (held : Held) (old new : FilesTold) (before after : Option (List ℕ)) : Type 0 where
+pub record AnswersLines (d : Declaration) (s : State) (lines : List (List ℕ)) (held : Held) (old new : FilesTold) (before after : Option (List ℕ)) : Type 0 where
   pub founds : List Found
   pub texts : List (List ℕ)
   pub state : State

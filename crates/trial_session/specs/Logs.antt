@@ -9,5 +9,5 @@ pub record LogsState : Type 0 where
   pub absences : ℕ
 
 -- what they tell: no read fails
-abbrev pub told_of : LogsState → FilesTold
-told_of s = record { content = Some (bytes_of s.puts); faults = 0; absences = s.absences }
+abbrev pub logs_told : LogsState → FilesTold
+logs_told s = record { content = Some (bytes_of s.puts); faults = 0; absences = s.absences }

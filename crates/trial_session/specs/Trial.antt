@@ -4,13 +4,14 @@ use Rattle.std.specs.List.{concat, range_with_len}
 use Rattle.atto.specs.Decimal.{decimal_of}
 use Rattle.ports.specs.Memory.{bytes_of}
 use Rattle.decl.specs.Declaration.{Declaration}
-use Rattle.decl.specs.Walk.{Declares}
+use Rattle.decl.specs.Walk.{IsDocumentOf}
 use Rattle.ports.specs.Lines.{lines_of}
 use Rattle.traces.specs.Traces.{event_count, events_of, seen_by}
 use Rattle.traces.specs.Messages.{messages_of}
 use Rattle.trial.specs.Declaration.{declaration_text}
 use Rattle.trial.specs.Workload.{files_of, script_of}
-use Rattle.replies.specs.Commands.{Interval}
+use Rattle.queries.specs.declared.comparison.Asked.TheVariants.{Interval}
+use Rattle.replies.specs.Commands.{Ask, Compare}
 use Rattle.replies.specs.Reply.{State, Found, Unread, Reply}
 use Rattle.replies.specs.Sessions.{Session, start, is_failed}
 
@@ -22,7 +23,7 @@ files_at n = bytes_of (files_of n)
 -- the text of the trial declares this, each line of its script has its reply, in order, in a session that begins with
 -- nothing, and no read fails; the session then has this
 pub record IsConducted (n : ℕ) (d : Declaration) (s : State) : Type 0 where
-  pub declared : Declares declaration_text d
+  pub declared : IsDocumentOf declaration_text d
   pub founds : List Found
   pub texts : List (List ℕ)
   pub session : Session d (Some (files_at n)) (start d) (lines_of (script_of n)) founds texts s
@@ -38,7 +39,7 @@ abbrev pub AreIntervals : Declaration → State → List ℕ → List (List ℕ)
 AreIntervals d s [] [] = Unit {0}
 AreIntervals d s [] (text ∷ texts) = ⊥
 AreIntervals d s (host ∷ hosts) [] = ⊥
-AreIntervals d s (host ∷ hosts) (text ∷ texts) = Reply d s (Interval (first_event 0) (first_event host)) Unread text s × AreIntervals d s hosts texts
+AreIntervals d s (host ∷ hosts) (text ∷ texts) = Reply d s (Ask (Compare Interval (first_event 0) (first_event host))) Unread text s × AreIntervals d s hosts texts
 
 -- ---- the whole
 -- so many events and messages are there behind the script, and these are the replies for the hosts behind the first one

@@ -6,7 +6,7 @@ ghost use Rattle.decl.specs.Declaration.{Declaration};
 ghost use Rattle.ports.specs.Lines.{lines_of};
 ghost use Rattle.replies.specs.Reply.{State};
 ghost use Rattle.session.specs.Stands.{StandsFor, Stepped, IsReady};
-ghost use Rattle.trial_session.specs.Answering.{Answers};
+ghost use Rattle.trial_session.specs.Answering.{AnswersLines};
 
 use atto::Steps;
 use line_format::cut;
@@ -61,7 +61,7 @@ pub(crate) fn answer_lines<F: Files, O: Sink, L: Ledger>(
     steps: &mut Steps<L>,
 ) -> Result<(), AllocError>
     requires { IsReady session.old }
-    ensures answers { (d : Declaration) (s : State) → StandsFor session.old d s → OnOk result (Answers d s (lines_of lines.now) session.new
+    ensures answers { (d : Declaration) (s : State) → StandsFor session.old d s → OnOk result (AnswersLines d s (lines_of lines.now) session.new
         (F.told files.old) (F.told files.new) (O.told replies.old).written (O.told replies.new).written) }
     ensures ready { OnOk result (IsReady session.new) }
     ensures keeps { Keeps (F.told files.old) (F.told files.new) }

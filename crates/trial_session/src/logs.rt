@@ -1,7 +1,7 @@
 // The files of a trial.
 ghost use Rattle.std.specs.Prelude.{◌≡◌, ◌≤◌, [], IfOk, IfErr, length};
 ghost use Rattle.ports.specs.Files.{HasBytes, ReadsAt, IsFailOf, RaisesNoFault, Keeps};
-ghost use Rattle.trial_session.specs.Logs.{told_of};
+ghost use Rattle.trial_session.specs.Logs.{logs_told};
 
 use ports::{FileFail, Files, MemFiles};
 use std::marker::Model;
@@ -35,15 +35,15 @@ impl Logs {
 }
 
 impl Files for Logs {
-    ghost told = { told_of };
+    ghost told = { logs_told };
 
     fn read_at(&mut self, path: &str, at: u64, buf: &mut [u8]) -> Result<usize, FileFail>
         // As all files.
         ensures count { IfOk result (λ n. n ≤ length buf.old) }
-        ensures read { IfOk result (λ n. HasBytes (told_of self.old).content path.now (ReadsAt at n buf.new)) }
-        ensures cause { IfErr result (IsFailOf path.now (told_of self.old) (told_of self.new)) }
-        ensures no_fault { RaisesNoFault path.now (told_of self.old) (told_of self.new) }
-        ensures keeps { Keeps (told_of self.old) (told_of self.new) }
+        ensures read { IfOk result (λ n. HasBytes (logs_told self.old).content path.now (ReadsAt at n buf.new)) }
+        ensures cause { IfErr result (IsFailOf path.now (logs_told self.old) (logs_told self.new)) }
+        ensures no_fault { RaisesNoFault path.now (logs_told self.old) (logs_told self.new) }
+        ensures keeps { Keeps (logs_told self.old) (logs_told self.new) }
     {
         self.files.read_at(path, at, buf)
     }

@@ -1,15 +1,15 @@
 // A trial and what it comes to.
 ghost use Rattle.std.specs.Prelude.{◌≡◌, ℕ, [], Some, IfOk, OnOk};
 ghost use Rattle.decl.specs.Declaration.{Declaration, IsDeclaration, declaration_of};
-ghost use Rattle.decl.specs.Walk.{Declares};
+ghost use Rattle.decl.specs.Walk.{IsDocumentOf};
 ghost use Rattle.ports.specs.Lines.{lines_of};
 ghost use Rattle.replies.specs.Reply.{State};
 ghost use Rattle.replies.specs.Sessions.{start};
 ghost use Rattle.session.specs.Stands.{StandsFor, IsReady};
 ghost use Rattle.trial.specs.Declaration.{declaration_text};
 ghost use Rattle.trial.specs.Workload.{files_of, script_of, HasFiles};
-ghost use Rattle.trial_session.specs.Logs.{told_of};
-ghost use Rattle.trial_session.specs.Answering.{Answers};
+ghost use Rattle.trial_session.specs.Logs.{logs_told};
+ghost use Rattle.trial_session.specs.Answering.{AnswersLines};
 ghost use Rattle.trial_session.specs.Trial.{IsTrial};
 
 use crate::lines::answer_lines;
@@ -43,7 +43,7 @@ pub struct Outcome {
 
 // The declaration in a text. One that is refused is taken for want of memory; that of a trial is not.
 fn declared(alloc: Global, text: &[u8]) -> Result<Decl, AllocError>
-    ensures declares { IfOk result (λ d. Declares text.now (declaration_of d)) }
+    ensures declares { IfOk result (λ d. IsDocumentOf text.now (declaration_of d)) }
     ensures lawful { IfOk result (λ d. IsDeclaration (declaration_of d)) }
 {
     read_decl(alloc, text).map_err(|_| AllocError)
@@ -51,7 +51,7 @@ fn declared(alloc: Global, text: &[u8]) -> Result<Decl, AllocError>
 
 // A session over the declaration in a text, in which nothing was added.
 fn session_over(alloc: Global, text: &[u8]) -> Result<Session, AllocError>
-    ensures stands { IfOk result (λ session. (d : Declaration) × Declares text.now d × StandsFor session d (start d)) }
+    ensures stands { IfOk result (λ session. (d : Declaration) × IsDocumentOf text.now d × StandsFor session d (start d)) }
     ensures ready { IfOk result (λ session. IsReady session) }
 {
     let decl = declared(alloc, text)?;
@@ -67,8 +67,8 @@ fn replies_to<L: Ledger>(
     steps: &mut Steps<L>,
 ) -> Result<MemSink, AllocError>
     requires { IsReady session.old }
-    ensures answers { (d : Declaration) (s : State) → StandsFor session.old d s → IfOk result (λ replies. Answers d s (lines_of lines.now) session.new
-        (told_of files.old) (told_of files.new) (Some []) (Some replies.held)) }
+    ensures answers { (d : Declaration) (s : State) → StandsFor session.old d s → IfOk result (λ replies. AnswersLines d s (lines_of lines.now) session.new
+        (logs_told files.old) (logs_told files.new) (Some []) (Some replies.held)) }
     ensures ready { OnOk result (IsReady session.new) }
 {
     let mut replies = MemSink::new(alloc, ROOM, ROOM, &[])?;
@@ -85,7 +85,7 @@ fn conclude<L: Ledger>(
     steps: &mut Steps<L>,
 ) -> Result<Outcome, AllocError>
     requires { IsReady session.old }
-    ensures { (n : ℕ) (d : Declaration) → Declares declaration_text d → StandsFor session.old d (start d) → script.now ≡ script_of n → HasFiles files.old.puts (files_of n)
+    ensures { (n : ℕ) (d : Declaration) → IsDocumentOf declaration_text d → StandsFor session.old d (start d) → script.now ≡ script_of n → HasFiles files.old.puts (files_of n)
         → IfOk result (λ o. IsTrial n o.events o.messages o.replies.held) }
 {
     // It tells that a line asks for one command.

@@ -1,7 +1,7 @@
 use Rattle.std.proofs.Common.{List, refl, subst}
 use Rattle.mergecap.specs.declared.stored.Stored.{Stored}
 use Rattle.mergecap.specs.MergedCapture.{merged_capture}
-use Rattle.problem_commands.specs.Printing.{IsOnly, Prints}
+use Rattle.problem_commands.specs.Printing.{IsOnlyText, Prints}
 use Rattle.problem_commands.specs.declared.status.Status.TheVariants as statuses
 use Rattle.decl.specs.Declaration.{declaration_of}
 use Rattle.merge_script.specs.Turns.{reads}
@@ -21,7 +21,7 @@ returns-in-Ok-merge_script-clause-merged g c =
     (g.I.Source.told c.args.input.now) (g.I.Source.told c.merge_script.new.input) c.in-Ok.ensures.keeps c.args.decl.now c.in-Ok.ensures.ok (g.O.Sink.told c.args.out.now) (g.O.Sink.told c.print.new.out)
     c.print.result (all_timed c.in-Ok-merge_script.ordered.items) c.in-Ok-merge_script.ensures.ok c.in-Ok-merge_script.ensures.writable c.in-Ok-merge_script.ensures.short
     (subst (λ (xs : List Stored). IsReadBack (all_timed xs)) c.deref.ensures.value c.print.ensures.read_back)
-    (subst (λ (xs : List Stored). Prints (IsOnly (merged_capture (all_timed xs)) statuses.Done) (g.O.Sink.told c.args.out.now) (g.O.Sink.told c.print.new.out) c.print.result) c.deref.ensures.value c.print.ensures.prints)
+    (subst (λ (xs : List Stored). Prints (IsOnlyText (merged_capture (all_timed xs)) statuses.Done) (g.O.Sink.told c.args.out.now) (g.O.Sink.told c.print.new.out) c.print.result) c.deref.ensures.value c.print.ensures.prints)
 
 pub returns-in-Err-merge_script-clause-merged : goal.returns-in-Err-merge_script-clause-merged
 returns-in-Err-merge_script-clause-merged g c =

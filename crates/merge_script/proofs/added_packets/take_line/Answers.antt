@@ -8,7 +8,7 @@ use Rattle.session.specs.Turns.{TakesOff}
 use Rattle.session.proofs.Places.{within_most}
 use Rattle.merge_script.specs.declared.unmerged.Unmerged.{Unmerged}
 use Rattle.merge_script.specs.declared.unmerged.Unmerged.TheVariants as ends
-use Rattle.merge_script.specs.Turns.{EndsSo, reads}
+use Rattle.merge_script.specs.Turns.{EndsRunSo, reads}
 use Rattle.merge_script.proofs.Adding.{ends_turn, ends_long}
 use Rattle.merge_script.proofs.Merges.{err_is}
 use Rattle.merge_script.proofs.added_packets.take_line.Goals as goal
@@ -39,7 +39,7 @@ returns-in_err-add_line-in-Ok-Text-clause-err g c =
     } in
     let why : Unmerged = c.in_err-add_line-in-Ok-Text.field-0.0 in
     let is : IfErr c.from_residual.result (λ (e : Unmerged). e ≡ why) = search rules in
-    err_is c.from_residual.result why (EndsSo c.args.session.now c.args.reader.now c.next_line.new.self old new (all_timed c.args.kept.now.items)) is
+    err_is c.from_residual.result why (EndsRunSo c.args.session.now c.args.reader.now c.next_line.new.self old new (all_timed c.args.kept.now.items)) is
     (ends_turn c.args.session.now c.args.reader.now c.next_line.new.self old new (all_timed c.args.kept.now.items) why off c.requires.some c.in_err-add_line-in-Ok-Text.ensures.err)
 
 pub returns-in-Ok-TooLong-clause-err : goal.returns-in-Ok-TooLong-clause-err

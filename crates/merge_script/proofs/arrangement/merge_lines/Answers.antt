@@ -1,6 +1,6 @@
 use Rattle.mergecap.specs.Packets.{all_timed}
 use Rattle.session.specs.Script.{Devices}
-use Rattle.merge_script.specs.Notes.{AreNoted, IsTold, notes_held}
+use Rattle.merge_script.specs.Notes.{AreNoted, IsToldNote, notes_held}
 use Rattle.merge_script.specs.Turns.{reads}
 use Rattle.merge_script.proofs.Noted.{noted_all, on_ok}
 use Rattle.merge_script.proofs.arrangement.merge_lines.Goals as goal
@@ -13,5 +13,5 @@ returns-clause-noted g c =
     let new : Devices = reads (g.F.Files.told c.gather.new.files) (g.I.Source.told c.gather.new.input) in
     let before = g.N.Sink.told c.args.notes.now in
     let after = g.N.Sink.told c.merge_noted.new.notes in
-    on_ok c.merge_noted.result (IsTold (notes_held h.declaration.labels h.under) before after) (AreNoted d old new before after)
+    on_ok c.merge_noted.result (IsToldNote (notes_held h.declaration.labels h.under) before after) (AreNoted d old new before after)
     (noted_all d old new h (all_timed c.gather.new.kept.items) before after c.in_ok-gather.ensures.ok) c.merge_noted.ensures.noted

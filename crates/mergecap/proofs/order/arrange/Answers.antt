@@ -30,6 +30,6 @@ returns-clause-writable c =
     let len : c.args.kept.len ≡ length now = search rules in
     let one : HasOneLink (all_timed kept) = one_of kept c.deref.result.now c.have_one_link.result c.deref.ensures.value c.have_one_link.ensures c.if-not-have_one_link.false in
     let held : All IsHeld kept = subst (All IsHeld) c.deref-2.ensures.value (c.are_in_range.ensures.0 c.if-not-are_in_range.false) in
-    let arranged : IsArranged (all_timed kept) (all_timed now) = subst (λ (l : List Stored). IsArranged (all_timed l) (all_timed now)) c.deref_mut.ensures.value c.in_ok-sort.ensures.arranged in
+    let arranged : IsArranged (all_timed kept) (all_timed now) = subst (λ (l : List Stored). IsArranged (all_timed l) (all_timed now)) c.deref_mut.ensures.value c.in_ok-sort.ensures in
     subst (λ (l : List Stored). AreWritable (all_timed l)) (sym (ap (λ (n : ℕ). take n (now ++ past)) len ∙ take-append_seam now past))
     (still_writable (all_timed kept) (all_timed now) arranged one (in_range kept c.requires.times held))

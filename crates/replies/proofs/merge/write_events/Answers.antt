@@ -9,7 +9,7 @@ use Rattle.traces.specs.declared.accepted.Accepted.{Accepted}
 use Rattle.traces.specs.Traces.{Placed, events_of}
 use Rattle.traces.specs.Held.{placed_in, placed_of, seen_in}
 use Rattle.traces.specs.Messages.{problem_of_seen}
-use Rattle.traces.specs.Making.{AreEvents}
+use Rattle.traces.specs.Making.{AreEventsOf}
 use Rattle.traces.proofs.Seen.{are_events}
 use Rattle.earliest.specs.Values.{Values}
 use Rattle.queries.specs.Replies.{Replies}
@@ -25,7 +25,7 @@ write_merged-requires-clause-events g c =
     let seen : List (List Seen) = seen_in c.args.accepted.now in
     let placed : placed_in c.deref.result.now ≡ events_of seen = ap placed_in c.deref.ensures.value ∙ c.in_ok-events.ensures in
     let labels : length seen ≡ length d.labels = length-map c.args.accepted.now (λ (a : Accepted). seen_events a.events.items) ∙ c.requires.labels in
-    subst (λ (events : List Placed). AreEvents d events) (sym placed) (are_events d seen labels c.requires.few)
+    subst (λ (events : List Placed). AreEventsOf d events) (sym placed) (are_events d seen labels c.requires.few)
 
 pub write_merged-requires-clause-solved : goal.write_merged-requires-clause-solved
 write_merged-requires-clause-solved g c =

@@ -8,7 +8,7 @@ use Rattle.traces.specs.Held.{placed_in, placed_of}
 use Rattle.report.specs.declared.merge.MergeKey.{MergeKey}
 use Rattle.report.specs.Merging.{AreApart, IsMergeOrder}
 use Rattle.replies.specs.Merged.{keys_from}
-use Rattle.replies.specs.Writing.{IsTextBy, count_line, lines_of, times_by}
+use Rattle.replies.specs.Writing.{IsTextBy, count_line, lines_merged, times_by}
 use Rattle.replies.proofs.Agreeing.{keys_apart, length_keys}
 use Rattle.replies.proofs.OneOrder.{order_within}
 use Rattle.replies.proofs.Stopping.{not_memory}
@@ -44,7 +44,7 @@ returns-in_err-write_ordered-clause-writes g c =
     let order : IsMergeOrder c.deref.result.now c.deref-2.result.now = subst (IsMergeOrder c.deref.result.now) (sym c.deref-2.ensures.value) c.in_ok-order.ensures in
     let sorted : IsMergeOrder (keys_from x 0 events) c.deref-2.result.now = subst (λ (ks : List MergeKey). IsMergeOrder ks c.deref-2.result.now) keys order in
     such_failed (IsTextBy d x events)
-    (c.deref-2.result.now, sorted, ap (λ (n : ℕ). count_line n ++ lines_of d x events c.deref-2.result.now) (sym (length-map c.args.events.now placed_of)))
+    (c.deref-2.result.now, sorted, ap (λ (n : ℕ). count_line n ++ lines_merged d x events c.deref-2.result.now) (sym (length-map c.args.events.now placed_of)))
     c.from_residual-in_err-write_ordered.ensures.0 c.in_err-write_ordered.ensures
 
 pub returns-clause-writes : goal.returns-clause-writes
@@ -56,7 +56,7 @@ returns-clause-writes g c =
     let order : IsMergeOrder c.deref.result.now c.deref-2.result.now = subst (IsMergeOrder c.deref.result.now) (sym c.deref-2.ensures.value) c.in_ok-order.ensures in
     let sorted : IsMergeOrder (keys_from x 0 events) c.deref-2.result.now = subst (λ (ks : List MergeKey). IsMergeOrder ks c.deref-2.result.now) keys order in
     such_written (IsTextBy d x events)
-    (c.deref-2.result.now, sorted, ap (λ (n : ℕ). count_line n ++ lines_of d x events c.deref-2.result.now) (sym (length-map c.args.events.now placed_of)))
+    (c.deref-2.result.now, sorted, ap (λ (n : ℕ). count_line n ++ lines_merged d x events c.deref-2.result.now) (sym (length-map c.args.events.now placed_of)))
     c.in_ok-write_ordered.ensures
 
 pub returns-in_err-write_ordered-clause-untouched : goal.returns-in_err-write_ordered-clause-untouched

@@ -1,4 +1,5 @@
 use Rattle.std.proofs.Common.{◌≡◌, ◌≤◌, ◌<◌, ◌+◌, ◌∙◌, ◌^◌, length, sym, arith, rules}
+use Rattle.problem_model.specs.Limits.{most_events}
 use Rattle.session.proofs.ToldMessages.{told, told_on, told_past, all_told}
 use Rattle.session.proofs.counts.told_messages.Goals.{then-is_some, else-is_some}
 use Rattle.session.proofs.counts.told_messages.Goals as goal
@@ -10,7 +11,7 @@ pub overflow_add-count : goal.overflow_add-count
 overflow_add-count c =
     let below : c.loop-v.count ≤ c.loop-v.v = c.loop-v.invariant.0 in
     let inside : c.loop-v.v < c.len-v-end.result = c.loop-v-test.true in
-    let few : c.len-v-end.result ≤ 2 ^ 21 = c.len-v-end.ensures.few in
+    let few : c.len-v-end.result ≤ most_events = c.len-v-end.ensures.few in
     let small : c.loop-v.count + 1 < 2 ^ 64 = omega (arith, below, inside, few) in
     search rules
 

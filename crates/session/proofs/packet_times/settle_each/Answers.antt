@@ -2,7 +2,7 @@ use Rattle.std.proofs.Common.{◌≤◌, ℕ, length, subst, refl, sym, ap, ◌�
 use Rattle.mergecap.specs.declared.stored.Stored.{Stored}
 use Rattle.mergecap.specs.MergedCapture.{Timed}
 use Rattle.mergecap.specs.Packets.{timed}
-use Rattle.roster.specs.Roster.{IsUnder}
+use Rattle.roster.specs.Roster.{IsNumberUnder}
 use Rattle.session.specs.Settled.{event_of, valued}
 use Rattle.std.proofs.lemmas.List.{length-map}
 use Rattle.session.proofs.Settles.{settle_next, settle_step, settle_done}
@@ -17,7 +17,7 @@ settle_one-requires-clause-there c =
     let next = settle_next (valued c.args.names.now c.args.solver.now) c.args.kept.now c.loop-stored.kept c.loop-stored.stored-index c.loop-stored.invariant item in
     let long = length-map c.args.kept.now timed in
     let inside = c.loop-stored-test.true in
-    subst (λ (t : Timed). (v : ℕ) × IsUnder c.args.names.now.under (event_of t) v) next (c.requires.there c.loop-stored.stored-index (timed item) (omega (arith, inside, long)))
+    subst (λ (t : Timed). (v : ℕ) × IsNumberUnder c.args.names.now.under (event_of t) v) next (c.requires.there c.loop-stored.stored-index (timed item) (omega (arith, inside, long)))
 
 pub loop-stored-preserved : goal.loop-stored-preserved
 loop-stored-preserved c =

@@ -1,6 +1,6 @@
 use Rattle.std.proofs.Common.{◌≡◌, ◌∙◌, List, [], Some, refl, sym, ap, subst, rules, map, length, arith}
 use Rattle.std.proofs.lemmas.List.{length-map}
-use Rattle.pcap_stream.proofs.Collecting.{all_few, all_kept}
+use Rattle.packets.proofs.Collecting.{all_few, all_kept}
 use Rattle.captures.specs.Capture as captures
 use Rattle.captures.specs.Feeding.{seen_packets}
 use Rattle.decl.specs.Declaration.{declaration_of}

@@ -2,7 +2,7 @@ use Rattle.std.proofs.Common.{◌≡◌, ◌∙◌, ◌<◌, ℕ, Bool, Option, 
 use Rattle.std.specs.Prelude.{IfSome, IsTrue}
 use Rattle.decl.specs.Declaration.{Declaration, IsSource}
 use Rattle.roster.specs.Roster.{listed}
-use Rattle.session_answers.specs.Ready.{KeepsSource, problem_by}
+use Rattle.session_answers.specs.Ready.{KeepsSource, answers_problem}
 use Rattle.session_answers.specs.Keeping.{clock_at}
 use Rattle.session_answers.proofs.Engines.{source_inside, spare_source}
 use Rattle.session_answers.proofs.Entering.{some_of, known_source, other_source, no_source_slot, looked_for}
@@ -30,7 +30,7 @@ keep_source-answers-requires-clause-clock g c =
     source_inside _ _ (subst (λ (d : Declaration). IfSome d.source (IsSource c.args.answers.now.graph.roster.declaration.clocks)) (sym c.decl-decl.ensures.same) c.decl-decl.ensures.lawful.declared.clocks.source_true)
 
 pub keep_source-answers-requires-clause-solution : goal.keep_source-answers-requires-clause-solution
-keep_source-answers-requires-clause-solution g c = (problem_by c.args.answers.now c.requires.so_far.0, c.requires.so_far.2.graph.solution)
+keep_source-answers-requires-clause-solution g c = (answers_problem c.args.answers.now c.requires.so_far.0, c.requires.so_far.2.graph.solution)
 
 pub keep_source-answers-requires-clause-none : goal.keep_source-answers-requires-clause-none
 keep_source-answers-requires-clause-none g c =
@@ -48,5 +48,5 @@ returns-clause-ready g c = λ seen kept are.
     let a = c.args.answers.now in
     let none : a.source ≡ None = search rules in
     looked_for c.args.k seen kept a are c.keep_source-answers.new.solver c.keep_source-answers.result none c.keep_source-answers.ensures.takes c.keep_source-answers.ensures.slots
-    (subst (λ (x : Option ℕ). KeepsSource (listed a.graph.roster) (problem_by a seen) x c.keep_source-answers.result c.keep_source-answers.new.solver) (ap (λ (d : Declaration). d.source) c.decl-decl.ensures.same)
-    (c.keep_source-answers.ensures.source (problem_by a seen) are.graph.solution))
+    (subst (λ (x : Option ℕ). KeepsSource (listed a.graph.roster) (answers_problem a seen) x c.keep_source-answers.result c.keep_source-answers.new.solver) (ap (λ (d : Declaration). d.source) c.decl-decl.ensures.same)
+    (c.keep_source-answers.ensures.source (answers_problem a seen) are.graph.solution))

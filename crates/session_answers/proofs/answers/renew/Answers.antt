@@ -5,7 +5,7 @@ use Rattle.traces.specs.Held.{seen_in}
 use Rattle.roster.specs.Roster.{RosterLists, listed}
 use Rattle.msg_match.specs.Ends.{IsChange}
 use Rattle.session_answers.specs.declared.answers.Answers.{Answers}
-use Rattle.session_answers.specs.Ready.{problem_by}
+use Rattle.session_answers.specs.Ready.{answers_problem}
 use Rattle.session_answers.proofs.Renewing.{addition_is, all_then, but_source, nothing_of, source_idle}
 use Rattle.session_answers.proofs.Entering.{accepted_at, enough, few_came, label_inside}
 use Rattle.session_answers.proofs.answers.renew.Goals as goal
@@ -52,7 +52,7 @@ returns-clause-consistent g c =
     (seen_events c.newest-events.result.now) c.newest-events.ensures.events before kept c.args.answers.now mid are more c.decl_of.ensures.lawful c.in_ok-changed.ensures.kept c.in_ok-changed.ensures.ends c.add.ensures.declaration
     c.in_ok-changed.ensures.events c.in_ok-changed.ensures.readings c.in_ok-changed.ensures.rows refl in
     let new = c.keep_source_now.new.answers in
-    c.is_consistent.ensures (listed new.graph.roster) (problem_by new seen) (c.keep_source_now.ensures.ready seen kept far).graph.solution
+    c.is_consistent.ensures (listed new.graph.roster) (answers_problem new seen) (c.keep_source_now.ensures.ready seen kept far).graph.solution
 
 pub returns-clause-changed : goal.returns-clause-changed
 returns-clause-changed g c = λ before kept are more.

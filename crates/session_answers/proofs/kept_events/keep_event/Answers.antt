@@ -1,7 +1,7 @@
 use Rattle.std.proofs.lemmas.Result.{IfOk-weaker}
 use Rattle.replies.specs.Outcomes.{outcome_line}
 use Rattle.replies.specs.Reply.{KeepReply}
-use Rattle.session_answers.specs.Ready.{problem_by}
+use Rattle.session_answers.specs.Ready.{answers_problem}
 use Rattle.session_answers.proofs.KeptNext.{kept_again, kept_now, kept_either, ready_after, unknown_kept}
 use Rattle.session_answers.proofs.RosterEvents.{node_inside}
 use Rattle.session_answers.proofs.kept_events.keep_event.Goals as goal
@@ -27,7 +27,7 @@ returns-in-Some-slot_of-clause-replies g c = λ seen lawful are.
 
 pub returns-in-None-slot_of-clause-replies : goal.returns-in-None-slot_of-clause-replies
 returns-in-None-slot_of-clause-replies g c = λ seen lawful are.
-    IfOk-weaker c.keep_new.result _ (λ outcome. KeepReply (problem_by c.args.answers.now seen) seen c.args.kept.now.items c.args.name.now (outcome_line outcome) c.keep_new.new.kept.items)
+    IfOk-weaker c.keep_new.result _ (λ outcome. KeepReply (answers_problem c.args.answers.now seen) seen c.args.kept.now.items c.args.name.now (outcome_line outcome) c.keep_new.new.kept.items)
     (λ outcome is. kept_now seen c.args.kept.now.items c.args.answers.now are lawful c.args.name.now _ _ c.in-Some.ensures.some c.keep_new.new.kept.items c.keep_new.new.solver outcome c.in-None-slot_of.ensures is)
     c.keep_new.ensures.kept
 

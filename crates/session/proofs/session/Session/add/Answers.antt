@@ -5,7 +5,7 @@ use Rattle.decl.specs.Declaration.{Declaration, HasLawfulLabels, declaration_of}
 use Rattle.replies.specs.Commands.{Add}
 use Rattle.replies.specs.declared.refusal.Refusal.TheVariants.{UnknownLabel}
 use Rattle.replies.specs.declared.outcome.Outcome.TheVariants.{Refused}
-use Rattle.replies.specs.Outcomes.{IsLineOf}
+use Rattle.replies.specs.Outcomes.{IsOutcomeLine}
 use Rattle.replies.specs.Reply.{label_at}
 use Rattle.session.specs.Stands.{Held}
 use Rattle.session.specs.Inside.{CommandAnswered}
@@ -27,12 +27,12 @@ returns-in-Some-clause-answers g c =
     let some : Some c.in-Some.k ≡ label_at (declaration_of c.decl_of.result.now) c.args.label.now = search (rules, c.in-Some.is, c.label_at.ensures) in
     let there = subst (λ (d : Declaration). Some c.in-Some.k ≡ label_at d c.args.label.now) (c.decl_of.ensures.same ∙ ap (λ (h : Held). h.declaration) c.self.view_is) some in
     IfOk-weaker c.add_under.result _
-    (λ outcome. CommandAnswered (Some (Add c.args.label.now c.args.path.now)) (g.F.Files.told c.args.files.now) (g.F.Files.told c.add_under.new.files) c.args.self.now c.add_under.new.self (IsLineOf outcome))
+    (λ outcome. CommandAnswered (Some (Add c.args.label.now c.args.path.now)) (g.F.Files.told c.args.files.now) (g.F.Files.told c.add_under.new.files) c.args.self.now c.add_under.new.self (IsOutcomeLine outcome))
     (λ outcome. under_command c.args.self.now c.add_under.new.self (g.F.Files.told c.args.files.now) (g.F.Files.told c.add_under.new.files) c.args.label.now c.args.path.now c.in-Some.k
-    (KeepsFound false c.args.self.now c.in-Some.k (seen_packets c.add_under.new.packets.items) outcome) (IsLineOf outcome) there) c.add_under.ensures.answers
+    (KeepsFound false c.args.self.now c.in-Some.k (seen_packets c.add_under.new.packets.items) outcome) (IsOutcomeLine outcome) there) c.add_under.ensures.answers
 
 pub returns-in-None-clause-answers : goal.returns-in-None-clause-answers
 returns-in-None-clause-answers g c =
     let none : None ≡ label_at (declaration_of c.decl_of.result.now) c.args.label.now = search (rules, c.in-None.is, c.label_at.ensures) in
     let there = subst (λ (d : Declaration). None ≡ label_at d c.args.label.now) (c.decl_of.ensures.same ∙ ap (λ (h : Held). h.declaration) c.self.view_is) none in
-    add_unknown c.args.self.now (g.F.Files.told c.args.files.now) c.args.label.now c.args.path.now (IsLineOf (Refused UnknownLabel)) there refl
+    add_unknown c.args.self.now (g.F.Files.told c.args.files.now) c.args.label.now c.args.path.now (IsOutcomeLine (Refused UnknownLabel)) there refl

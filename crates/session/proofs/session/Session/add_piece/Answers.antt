@@ -1,12 +1,13 @@
-use Rattle.std.proofs.Common.{◌≡◌, ◌∙◌, ◌<◌, ◌≤◌, ℕ, List, sym, ap, subst, refl, ◌+◌, ◌-◌, ◌^◌, length, map, slice_get, Some, true, false, rules, arith}
+use Rattle.std.proofs.Common.{◌≡◌, ◌∙◌, ◌<◌, ◌≤◌, ℕ, List, sym, ap, subst, refl, ◌+◌, ◌-◌, length, map, slice_get, Some, true, false, rules, arith}
 use Rattle.std.proofs.lemmas.Result.{IfOk-weaker}
 use Rattle.std.proofs.lemmas.List.{length-map}
+use Rattle.problem_model.specs.Limits.{most_events}
 use Rattle.decl.specs.declared.items.Label.{Label}
 use Rattle.decl.specs.Declaration.{Declaration, declaration_of}
 use Rattle.traces.specs.Seen.{seen_events}
 use Rattle.replies.specs.declared.refusal.Refusal.TheVariants.{TooManyBytes, TooManyEvents}
 use Rattle.replies.specs.declared.outcome.Outcome.TheVariants.{Refused}
-use Rattle.replies.specs.Outcomes.{IsLineOf}
+use Rattle.replies.specs.Outcomes.{IsOutcomeLine}
 use Rattle.captures.specs.Feeding.{Packet, seen_packet, seen_packets}
 use Rattle.traces.specs.Traces.{event_count}
 use Rattle.session.specs.declared.pieces.Piece.TheVariants as pieces
@@ -27,7 +28,7 @@ use Rattle.session.proofs.session.Session.add_piece.Goals as goal
 pub returns-then-more-clause-answers : goal.returns-then-more-clause-answers
 returns-then-more-clause-answers g c =
     let more : c.args.more ≡ true = search rules in
-    piece_more c.args.self.now c.args.k c.args.more c.args.front.now (IsLineOf (Refused TooManyBytes)) more c.requires.inside refl
+    piece_more c.args.self.now c.args.k c.args.more c.args.front.now (IsOutcomeLine (Refused TooManyBytes)) more c.requires.inside refl
 
 pub returns-then-not-has_place-clause-answers : goal.returns-then-not-has_place-clause-answers
 returns-then-not-has_place-clause-answers g c =
@@ -35,7 +36,7 @@ returns-then-not-has_place-clause-answers g c =
     let none : c.has_place.result ≡ false = search rules in
     let held = subst IsWithinLimits c.self.view_is (limits c.self.invariant.0) in
     let at_under = under_at c.self.inside.answers.graph.roster.declaration c.self.inside.accepted.items _ _ c.args.self.now c.args.k c.index-under.result.now c.self.view_is (inside_under c.args.self.now c.args.k held c.requires.inside) c.index-under.ensures in
-    piece_without_place c.args.self.now c.args.k (under_of c.index-under.result.now) c.args.more c.args.front.now (IsLineOf (Refused TooManyBytes)) more at_under (sym c.has_place.ensures ∙ none) refl
+    piece_without_place c.args.self.now c.args.k (under_of c.index-under.result.now) c.args.more c.args.front.now (IsOutcomeLine (Refused TooManyBytes)) more at_under (sym c.has_place.ensures ∙ none) refl
 
 pub host_of-host-requires : goal.host_of-host-requires
 host_of-host-requires g c =
@@ -87,9 +88,9 @@ returns-in-Read-clause-answers g c =
     let declared = c.decl_of-decl.ensures.same ∙ ap (λ (h : Held). h.declaration) c.self.view_is in
     let at_host = subst (λ (d : Declaration). slice_get (map (λ (l : Label). l.host) d.labels) c.args.k ≡ Some c.host_of-host.result) declared host in
     let by_held = subst (λ (d : Declaration). SaysEvents d c.host_of-host.result c.index-under.result.now.stream c.args.front.now (seen_events c.in-Read.events.items) c.in-Read.stream) declared says in
-    IfOk-weaker c.accept.result _ (λ outcome. FrontAnswered c.args.more c.args.front.now c.args.self.now c.accept.new.self c.args.k (IsLineOf outcome))
-    (λ outcome answered. piece_read c.args.self.now c.accept.new.self c.args.k (under_of c.index-under.result.now) c.args.more c.args.front.now (IsLineOf outcome) more at_under (sym c.has_place.ensures ∙ place)
-    (says_answered c.args.self.now c.accept.new.self c.args.k c.host_of-host.result c.args.front.now (under_of c.index-under.result.now) (seen_events c.in-Read.events.items) c.in-Read.stream (IsLineOf outcome)
+    IfOk-weaker c.accept.result _ (λ outcome. FrontAnswered c.args.more c.args.front.now c.args.self.now c.accept.new.self c.args.k (IsOutcomeLine outcome))
+    (λ outcome answered. piece_read c.args.self.now c.accept.new.self c.args.k (under_of c.index-under.result.now) c.args.more c.args.front.now (IsOutcomeLine outcome) more at_under (sym c.has_place.ensures ∙ place)
+    (says_answered c.args.self.now c.accept.new.self c.args.k c.host_of-host.result c.args.front.now (under_of c.index-under.result.now) (seen_events c.in-Read.events.items) c.in-Read.stream (IsOutcomeLine outcome)
     at_under at_host answered by_held))
     c.accept.ensures.answers
 
@@ -112,10 +113,10 @@ returns-in-TooManyEvents-clause-answers g c =
     let declared = c.decl_of-decl.ensures.same ∙ ap (λ (h : Held). h.declaration) c.self.view_is in
     let at_host = subst (λ (d : Declaration). slice_get (map (λ (l : Label). l.host) d.labels) c.args.k ≡ Some c.host_of-host.result) declared host in
     let by_held = subst (λ (d : Declaration). SaysEvents d c.host_of-host.result c.index-under.result.now.stream c.args.front.now read.0 read.1) declared read.2 in
-    let room = c.room_left-room.ensures ∙ ap (λ (n : ℕ). 2 ^ 21 - n) counted in
-    let answered = refused_in c.args.self.now c.args.k c.room_left-room.result read.0 (length c.args.front.now) read.1 (IsLineOf (Refused TooManyEvents)) (inside_under c.args.self.now c.args.k held c.requires.inside) room read.3 refl in
-    piece_read c.args.self.now c.args.self.now c.args.k (under_of c.index-under.result.now) c.args.more c.args.front.now (IsLineOf (Refused TooManyEvents)) more at_under (sym c.has_place.ensures ∙ place)
-    (says_answered c.args.self.now c.args.self.now c.args.k c.host_of-host.result c.args.front.now (under_of c.index-under.result.now) read.0 read.1 (IsLineOf (Refused TooManyEvents)) at_under at_host answered by_held)
+    let room = c.room_left-room.ensures ∙ ap (λ (n : ℕ). most_events - n) counted in
+    let answered = refused_in c.args.self.now c.args.k c.room_left-room.result read.0 (length c.args.front.now) read.1 (IsOutcomeLine (Refused TooManyEvents)) (inside_under c.args.self.now c.args.k held c.requires.inside) room read.3 refl in
+    piece_read c.args.self.now c.args.self.now c.args.k (under_of c.index-under.result.now) c.args.more c.args.front.now (IsOutcomeLine (Refused TooManyEvents)) more at_under (sym c.has_place.ensures ∙ place)
+    (says_answered c.args.self.now c.args.self.now c.args.k c.host_of-host.result c.args.front.now (under_of c.index-under.result.now) read.0 read.1 (IsOutcomeLine (Refused TooManyEvents)) at_under at_host answered by_held)
 
 pub returns-in-Refused-clause-answers : goal.returns-in-Refused-clause-answers
 returns-in-Refused-clause-answers g c =
@@ -124,8 +125,8 @@ returns-in-Refused-clause-answers g c =
     let held = subst IsWithinLimits c.self.view_is (limits c.self.invariant.0) in
     let at_under = under_at c.self.inside.answers.graph.roster.declaration c.self.inside.accepted.items _ _ c.args.self.now c.args.k c.index-under.result.now c.self.view_is (inside_under c.args.self.now c.args.k held c.requires.inside) c.index-under.ensures in
     let why : IsRefusedAs c.index-under.result.now.stream c.args.front.now c.in-Refused.refusal = rw c.in-Refused.is at c.in_ok-read.ensures.read in
-    piece_read c.args.self.now c.args.self.now c.args.k (under_of c.index-under.result.now) c.args.more c.args.front.now (IsLineOf (Refused c.in-Refused.refusal)) more at_under (sym c.has_place.ensures ∙ place)
-    (refusal_answered c.args.self.now c.args.k c.args.front.now (under_of c.index-under.result.now) c.in-Refused.refusal (IsLineOf (Refused c.in-Refused.refusal)) at_under refl why)
+    piece_read c.args.self.now c.args.self.now c.args.k (under_of c.index-under.result.now) c.args.more c.args.front.now (IsOutcomeLine (Refused c.in-Refused.refusal)) more at_under (sym c.has_place.ensures ∙ place)
+    (refusal_answered c.args.self.now c.args.k c.args.front.now (under_of c.index-under.result.now) c.in-Refused.refusal (IsOutcomeLine (Refused c.in-Refused.refusal)) at_under refl why)
 
 pub returns-in-Read-clause-packets : goal.returns-in-Read-clause-packets
 returns-in-Read-clause-packets g c = λ keeps.
@@ -147,7 +148,7 @@ returns-in-Read-clause-room g c = λ keeps.
     let same : length c.keep_only.new.packets.items ≡ length c.read_piece.new.packets.items = ap length (c.keep_only.ensures keeps) in
     let events : ℕ = event_count (seen_held c.args.self.now.under) in
     IfOk-weaker c.accept.result _ (HadRoom c.args.self.now (length c.keep_only.new.packets.items))
-    (λ outcome. where_weaker outcome (λ room. let all : events + length c.in-Read.events.items ≤ 2 ^ 21 = room in let less : events + length c.keep_only.new.packets.items ≤ 2 ^ 21 = omega (arith, all, few, count, same) in less))
+    (λ outcome. where_weaker outcome (λ room. let all : events + length c.in-Read.events.items ≤ most_events = room in let less : events + length c.keep_only.new.packets.items ≤ most_events = omega (arith, all, few, count, same) in less))
     c.accept.ensures.room
 
 pub returns-then-more-clause-addition : goal.returns-then-more-clause-addition

@@ -2,7 +2,7 @@ use Rattle.std.proofs.Common.{refl}
 use Rattle.captures.specs.Feeding.{seen_packets}
 use Rattle.replies.specs.declared.refusal.Refusal.TheVariants.{UnreadFile}
 use Rattle.replies.specs.declared.outcome.Outcome.TheVariants.{Refused}
-use Rattle.replies.specs.Outcomes.{IsLineOf}
+use Rattle.replies.specs.Outcomes.{IsOutcomeLine}
 use Rattle.session.specs.TakingInside.{KeepsFound}
 use Rattle.session.proofs.AddedThere.{file_answered}
 use Rattle.session.proofs.Additions.{adds_nothing}
@@ -18,13 +18,13 @@ pub returns-in-Err-Absent-clause-answers : goal.returns-in-Err-Absent-clause-ans
 returns-in-Err-Absent-clause-answers g c =
     let cause = rw c.in-Err-Absent.field-0-is at c.in-Err-Absent.ensures.cause in
     under_absent c.args.self.now (g.F.Files.told c.args.files.now) (g.F.Files.told c.read_file.new.files) c.args.path.now c.args.k
-    (KeepsFound c.args.keeps c.args.self.now c.args.k (seen_packets c.args.packets.now.items) (Refused UnreadFile)) (IsLineOf (Refused UnreadFile)) cause.0 c.in-Err-Absent.ensures.keeps cause.1 (λ is. tt) refl
+    (KeepsFound c.args.keeps c.args.self.now c.args.k (seen_packets c.args.packets.now.items) (Refused UnreadFile)) (IsOutcomeLine (Refused UnreadFile)) cause.0 c.in-Err-Absent.ensures.keeps cause.1 (λ is. tt) refl
 
 pub returns-in-Err-Read-clause-answers : goal.returns-in-Err-Read-clause-answers
 returns-in-Err-Read-clause-answers g c =
     let cause = rw c.in-Err-Read.field-0-is at c.in-Err-Read.ensures.cause in
     under_failed c.args.self.now (g.F.Files.told c.args.files.now) (g.F.Files.told c.read_file.new.files) c.args.path.now c.args.k
-    (KeepsFound c.args.keeps c.args.self.now c.args.k (seen_packets c.args.packets.now.items) (Refused UnreadFile)) (IsLineOf (Refused UnreadFile)) cause c.in-Err-Read.ensures.keeps (λ is. tt) refl
+    (KeepsFound c.args.keeps c.args.self.now c.args.k (seen_packets c.args.packets.now.items) (Refused UnreadFile)) (IsOutcomeLine (Refused UnreadFile)) cause c.in-Err-Read.ensures.keeps (λ is. tt) refl
 
 pub returns-in-Err-Absent-clause-addition : goal.returns-in-Err-Absent-clause-addition
 returns-in-Err-Absent-clause-addition g c = adds_nothing _ c.args.self.now c.args.steps.now c.self.view_is c.self.invariant.0

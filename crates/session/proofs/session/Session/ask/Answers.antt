@@ -1,14 +1,17 @@
-use Rattle.std.proofs.Common.{◌≡◌, ◌∙◌, ◌≤◌, ◌^◌, List, length, true, sym, ap, subst}
+use Rattle.std.proofs.Common.{◌≡◌, ◌∙◌, ◌≤◌, List, length, true, sym, ap, subst}
+use Rattle.problem_model.specs.Limits.{most_events}
 use Rattle.decl.specs.Declaration.{Declaration}
 use Rattle.roster.specs.Roster.{RosterLists}
 use Rattle.traces.specs.declared.accepted.Accepted.{Accepted}
 use Rattle.traces.specs.Traces.{event_count}
-use Rattle.traces.specs.Held.{seen_in}
-use Rattle.replies.specs.CommandSeen.{question_seen}
-use Rattle.session.specs.Stands.{Held, held_of, solver_of}
+use Rattle.traces.specs.Held.{passed_in, seen_in}
+use Rattle.session.specs.Stands.{Held, held_parts, solver_of}
 use Rattle.session_answers.specs.Ready.{AreAnswersOf}
-use Rattle.session.specs.Inside.{Asked}
-use Rattle.session.proofs.Telling.{reply_as}
+use Rattle.replies.specs.Commands.{Ask, question_seen}
+use Rattle.replies.specs.Reply.{IsAnswerTo}
+use Rattle.session.specs.Inside.{UnreadAnswered}
+use Rattle.session.proofs.Replying.{answered}
+use Rattle.session.proofs.Telling.{Told, reply_such}
 use Rattle.session.proofs.Standby.{ready_of, ready_some}
 use Rattle.session.proofs.FromSlots.{from_slots}
 use Rattle.session.proofs.Accepting.{whole_kept}
@@ -20,7 +23,7 @@ answer-requires-clause-labels g c = ap length c.deref.ensures.value ∙ accepted
 
 pub answer-requires-clause-few : goal.answer-requires-clause-few
 answer-requires-clause-few g c =
-    subst (λ (l : List Accepted). event_count (seen_in l) ≤ 2 ^ 21) (sym c.deref.ensures.value) (accepted_few c.self.inside.answers.graph.roster.declaration c.self.inside.accepted.items _ _ (limits c.self.invariant.0))
+    subst (λ (l : List Accepted). event_count (seen_in l) ≤ most_events) (sym c.deref.ensures.value) (accepted_few c.self.inside.answers.graph.roster.declaration c.self.inside.accepted.items _ _ (limits c.self.invariant.0))
 
 pub answer-requires-clause-ready : goal.answer-requires-clause-ready
 answer-requires-clause-ready g c =
@@ -33,11 +36,11 @@ returns-clause-writes g c =
     let kept = c.self.inside.kept.items in
     let before = solver_of c.self.inside.ready c.self.inside.answers in
     let after = solver_of c.self.inside.ready c.answer.new.answers in
-    let command = question_seen c.args.question in
+    let q = question_seen c.args.question in
     let same : c.answer.new.answers.graph.roster.declaration ≡ d = ap (λ (r : RosterLists). r.declaration) c.answer.ensures.roster in
-    reply_as (λ IsWritten says. subst (λ (x : Declaration). Asked c.args.self.now (held_of x c.self.inside.accepted.items kept after) command IsWritten) (sym same)
-    (subst (λ (h : Held). Asked h (held_of d c.self.inside.accepted.items kept after) command IsWritten) c.self.view_is
-    (subst (λ (l : List Accepted). Asked (held_of d l kept before) (held_of d l kept after) command IsWritten) c.deref.ensures.value (says kept before after)))) c.answer.ensures.writes
+    reply_such (λ IsWritten told. subst (λ (x : Declaration). UnreadAnswered c.args.self.now (held_parts x c.self.inside.accepted.items kept after) (Ask q) IsWritten) (sym same)
+    (subst (λ (h : Held). UnreadAnswered h (held_parts d c.self.inside.accepted.items kept after) (Ask q) IsWritten) c.self.view_is
+    (answered d c.self.inside.accepted.items q IsWritten (subst (λ (l : List Accepted). Told (IsAnswerTo q d (seen_in l) (passed_in l)) IsWritten) c.deref.ensures.value told) kept before after))) c.answer.ensures.writes
 
 pub returns-clause-ready : goal.returns-clause-ready
 returns-clause-ready g c =

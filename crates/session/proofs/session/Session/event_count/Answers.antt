@@ -1,4 +1,5 @@
 use Rattle.std.proofs.Common.{◌≡◌, ◌^◌, ◌-◌, ◌∙◌, List, length, ap, sym, min, arith, rules}
+use Rattle.problem_model.specs.Limits.{most_events}
 use Rattle.traces.specs.declared.accepted.Accepted.{Accepted}
 use Rattle.traces.specs.Traces.{event_count}
 use Rattle.traces.specs.Held.{seen_in}
@@ -22,5 +23,5 @@ returns c =
     let few = accepted_few inside.answers.graph.roster.declaration inside.accepted.items inside.kept.items (solver_of inside.ready inside.answers) (limits c.self.invariant.0) in
     c.event_count.ensures
     ∙ ap (λ (l : List Accepted). min (event_count (seen_in l)) (2 ^ 64 - 1)) c.deref.ensures.value
-    ∙ least_of_few (event_count (seen_in inside.accepted.items)) (2 ^ 64 - 1) (2 ^ 21) few (omega arith)
+    ∙ least_of_few (event_count (seen_in inside.accepted.items)) (2 ^ 64 - 1) (most_events) few (omega arith)
     ∙ sym (ap event_count (ap (λ (h : Held). seen_held h.under) (sym c.self.view_is) ∙ seen_accepted inside.accepted.items))

@@ -5,10 +5,10 @@ use Rattle.decl.specs.Declaration.{Declaration}
 use Rattle.roster.specs.Roster.{RosterLists}
 use Rattle.traces.specs.Held.{seen_in}
 use Rattle.replies.specs.Commands.{Keep}
-use Rattle.replies.specs.Outcomes.{IsLineOf, outcome_line}
-use Rattle.session.specs.Stands.{Held, held_of, solver_of}
+use Rattle.replies.specs.Outcomes.{IsOutcomeLine, outcome_line}
+use Rattle.session.specs.Stands.{Held, held_parts, solver_of}
 use Rattle.session_answers.specs.Ready.{AreAnswersOf}
-use Rattle.session.specs.Inside.{Asked}
+use Rattle.session.specs.Inside.{UnreadAnswered}
 use Rattle.session.proofs.Replying.{keep_answered}
 use Rattle.session.proofs.Standby.{ready_of, ready_some, on_ok, of_ok}
 use Rattle.session.proofs.Accepting.{whole_kept, never_ready}
@@ -30,9 +30,9 @@ returns-else-is_err-clause-answers g c =
     let after = solver_of c.self.inside.ready c.keep_event-kept.new.answers in
     let ready : c.self.inside.ready ≡ true = ready_of c.args.self.now c.self.inside.ready c.self.inside.answers (ap (λ (h : Held). h.answers) c.self.view_is) c.requires.ready in
     let same : c.keep_event-kept.new.answers.graph.roster.declaration ≡ d = ap (λ (r : RosterLists). r.declaration) c.keep_event-kept.ensures.roster in
-    IfOk-weaker c.keep_event-kept.result _ (λ outcome. Asked c.args.self.now (held_of c.keep_event-kept.new.answers.graph.roster.declaration accepted kept' after) (Keep c.args.event.now) (IsLineOf outcome))
-    (λ outcome reply. subst (λ (x : Declaration). Asked c.args.self.now (held_of x accepted kept' after) (Keep c.args.event.now) (IsLineOf outcome)) (sym same)
-    (subst (λ (h : Held). Asked h (held_of d accepted kept' after) (Keep c.args.event.now) (IsLineOf outcome)) c.self.view_is
+    IfOk-weaker c.keep_event-kept.result _ (λ outcome. UnreadAnswered c.args.self.now (held_parts c.keep_event-kept.new.answers.graph.roster.declaration accepted kept' after) (Keep c.args.event.now) (IsOutcomeLine outcome))
+    (λ outcome reply. subst (λ (x : Declaration). UnreadAnswered c.args.self.now (held_parts x accepted kept' after) (Keep c.args.event.now) (IsOutcomeLine outcome)) (sym same)
+    (subst (λ (h : Held). UnreadAnswered h (held_parts d accepted kept' after) (Keep c.args.event.now) (IsOutcomeLine outcome)) c.self.view_is
     (keep_answered d accepted kept kept' before after c.args.event.now (outcome_line outcome) reply))) (c.keep_event-kept.ensures.replies (seen_in accepted) c.self.invariant.1 (c.self.invariant.2 ready))
 
 pub returns-else-is_err-clause-ready : goal.returns-else-is_err-clause-ready

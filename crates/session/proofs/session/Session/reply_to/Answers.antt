@@ -1,7 +1,7 @@
 use Rattle.std.proofs.Common.{◌∙◌, Some}
 use Rattle.ports.proofs.Writing.{writes_as}
 use Rattle.replies.specs.Commands as asked
-use Rattle.replies.specs.CommandSeen.{question_seen}
+use Rattle.replies.specs.Commands.{question_seen}
 use Rattle.replies.specs.Outcomes.{outcome_line}
 use Rattle.session.proofs.Telling.{reply_as, reply_text}
 use Rattle.session.proofs.Replying.{asked_written, line_written, stepped, stepped_unread, stepped_none}
@@ -27,11 +27,11 @@ returns-in_ok-outcome-in-Some-Keep-clause-writes g c =
 
 pub returns-in-Some-Ask-clause-writes : goal.returns-in-Some-Ask-clause-writes
 returns-in-Some-Ask-clause-writes g c =
-    reply_as (λ IsWritten. stepped_unread (g.F.Files.told c.args.files.now) c.args.self.now c.ask.new.self c.args.line.now (question_seen c.in-Some-Ask.question) IsWritten c.requires.short
+    reply_as (λ IsWritten. stepped_unread (g.F.Files.told c.args.files.now) c.args.self.now c.ask.new.self c.args.line.now (asked.Ask (question_seen c.in-Some-Ask.question)) IsWritten c.requires.short
     (rw c.in-Some-Ask.field-0-is at c.in-Some-Ask.ensures)) c.ask.ensures.writes
 
 pub returns-in-Some-Ask-clause-memory : goal.returns-in-Some-Ask-clause-memory
-returns-in-Some-Ask-clause-memory g c = λ fails. memory_of_line c.args.line.now (question_seen c.in-Some-Ask.question) (rw c.in-Some-Ask.field-0-is at c.in-Some-Ask.ensures) (c.ask.ensures.memory fails)
+returns-in-Some-Ask-clause-memory g c = λ fails. memory_of_line c.args.line.now (asked.Ask (question_seen c.in-Some-Ask.question)) (rw c.in-Some-Ask.field-0-is at c.in-Some-Ask.ensures) (c.ask.ensures.memory fails)
 
 pub returns-in-Some-Ask-clause-steps : goal.returns-in-Some-Ask-clause-steps
 returns-in-Some-Ask-clause-steps g c = λ asks. c.ask.ensures.steps (rows_of_line c.args.self.now c.args.line.now (question_seen c.in-Some-Ask.question) (rw c.in-Some-Ask.field-0-is at c.in-Some-Ask.ensures) asks)
@@ -44,7 +44,7 @@ pub returns-in_ok-outcome-in-Some-Keep-clause-addition : goal.returns-in_ok-outc
 returns-in_ok-outcome-in-Some-Keep-clause-addition g c = keeps_no_addition c.args.line.now c.in-Some-Keep.event.now c.args.self.now c.keep.new.self c.args.steps.now c.keep.new.steps (rw c.in-Some-Keep.field-0-is at c.in-Some-Keep.ensures)
 
 pub returns-in-Some-Ask-clause-addition : goal.returns-in-Some-Ask-clause-addition
-returns-in-Some-Ask-clause-addition g c = asks_no_addition c.args.line.now c.in-Some-Ask.question c.args.self.now c.ask.new.self c.args.steps.now c.ask.new.steps (rw c.in-Some-Ask.field-0-is at c.in-Some-Ask.ensures)
+returns-in-Some-Ask-clause-addition g c = asks_no_addition c.args.line.now (question_seen c.in-Some-Ask.question) c.args.self.now c.ask.new.self c.args.steps.now c.ask.new.steps (rw c.in-Some-Ask.field-0-is at c.in-Some-Ask.ensures)
 
 pub returns-in-None-clause-addition : goal.returns-in-None-clause-addition
 returns-in-None-clause-addition g c = spells_no_addition c.args.line.now c.args.self.now c.args.self.now c.args.steps.now c.args.steps.now c.in-None.ensures

@@ -7,7 +7,7 @@ use Rattle.problem_model.specs.Problem.{ProblemLists}
 use Rattle.queries.specs.Consistent.{IsConsistent}
 use Rattle.roster.specs.Roster.{listed}
 use Rattle.session.specs.Stands.{Held, problem_held, seen_held}
-use Rattle.session_answers.specs.Ready.{problem_by}
+use Rattle.session_answers.specs.Ready.{answers_problem}
 use Rattle.session.proofs.Holding.{seen_accepted}
 use Rattle.session.proofs.Standby.{ready_of}
 use Rattle.mergecap.specs.Packets.{all_timed}
@@ -21,7 +21,7 @@ pub settle_each-requires-clause-current : goal.settle_each-requires-clause-curre
 settle_each-requires-clause-current c =
     let a = c.self.inside.answers in
     let seen = seen_in c.self.inside.accepted.items in
-    let p = problem_by a seen in
+    let p = answers_problem a seen in
     let same : problem_held c.args.self.now ≡ p = ap problem_held (sym c.self.view_is) ∙ ap (λ (x : List (List Seen)). problem_of_seen a.graph.roster.declaration x) (seen_accepted c.self.inside.accepted.items) in
     let ready : c.self.inside.ready ≡ true = ready_of c.args.self.now c.self.inside.ready a (ap (λ (h : Held). h.answers) c.self.view_is) c.requires.ready in
     let are = c.self.invariant.2 ready in
@@ -31,7 +31,7 @@ pub settle_each-requires-clause-solved : goal.settle_each-requires-clause-solved
 settle_each-requires-clause-solved c =
     let a = c.self.inside.answers in
     let seen = seen_in c.self.inside.accepted.items in
-    let p = problem_by a seen in
+    let p = answers_problem a seen in
     let same : problem_held c.args.self.now ≡ p = ap problem_held (sym c.self.view_is) ∙ ap (λ (x : List (List Seen)). problem_of_seen a.graph.roster.declaration x) (seen_accepted c.self.inside.accepted.items) in
     let ready : c.self.inside.ready ≡ true = ready_of c.args.self.now c.self.inside.ready a (ap (λ (h : Held). h.answers) c.self.view_is) c.requires.ready in
     let are = c.self.invariant.2 ready in
@@ -42,7 +42,7 @@ pub settle_each-requires-clause-nodes : goal.settle_each-requires-clause-nodes
 settle_each-requires-clause-nodes c =
     let a = c.self.inside.answers in
     let seen = seen_in c.self.inside.accepted.items in
-    let p = problem_by a seen in
+    let p = answers_problem a seen in
     let same : problem_held c.args.self.now ≡ p = ap problem_held (sym c.self.view_is) ∙ ap (λ (x : List (List Seen)). problem_of_seen a.graph.roster.declaration x) (seen_accepted c.self.inside.accepted.items) in
     let ready : c.self.inside.ready ≡ true = ready_of c.args.self.now c.self.inside.ready a (ap (λ (h : Held). h.answers) c.self.view_is) c.requires.ready in
     let are = c.self.invariant.2 ready in
@@ -52,7 +52,7 @@ pub settle_each-requires-clause-there : goal.settle_each-requires-clause-there
 settle_each-requires-clause-there c =
     let a = c.self.inside.answers in
     let seen = seen_in c.self.inside.accepted.items in
-    let p = problem_by a seen in
+    let p = answers_problem a seen in
     let same : problem_held c.args.self.now ≡ p = ap problem_held (sym c.self.view_is) ∙ ap (λ (x : List (List Seen)). problem_of_seen a.graph.roster.declaration x) (seen_accepted c.self.inside.accepted.items) in
     let ready : c.self.inside.ready ≡ true = ready_of c.args.self.now c.self.inside.ready a (ap (λ (h : Held). h.answers) c.self.view_is) c.requires.ready in
     let are = c.self.invariant.2 ready in
@@ -63,7 +63,7 @@ pub returns-clause-settled : goal.returns-clause-settled
 returns-clause-settled c =
     let a = c.self.inside.answers in
     let seen = seen_in c.self.inside.accepted.items in
-    let p = problem_by a seen in
+    let p = answers_problem a seen in
     let same : problem_held c.args.self.now ≡ p = ap problem_held (sym c.self.view_is) ∙ ap (λ (x : List (List Seen)). problem_of_seen a.graph.roster.declaration x) (seen_accepted c.self.inside.accepted.items) in
     let ready : c.self.inside.ready ≡ true = ready_of c.args.self.now c.self.inside.ready a (ap (λ (h : Held). h.answers) c.self.view_is) c.requires.ready in
     let are = c.self.invariant.2 ready in
@@ -82,7 +82,7 @@ pub returns-clause-from_zero : goal.returns-clause-from_zero
 returns-clause-from_zero c =
     let a = c.self.inside.answers in
     let seen = seen_in c.self.inside.accepted.items in
-    let p = problem_by a seen in
+    let p = answers_problem a seen in
     let same : problem_held c.args.self.now ≡ p = ap problem_held (sym c.self.view_is) ∙ ap (λ (x : List (List Seen)). problem_of_seen a.graph.roster.declaration x) (seen_accepted c.self.inside.accepted.items) in
     let ready : c.self.inside.ready ≡ true = ready_of c.args.self.now c.self.inside.ready a (ap (λ (h : Held). h.answers) c.self.view_is) c.requires.ready in
     let are = c.self.invariant.2 ready in

@@ -2,11 +2,11 @@ use Rattle.std.proofs.Common.{◌∙◌, Some, None, refl, sym}
 use Rattle.std.proofs.lemmas.Result.{IfOk-weaker}
 use Rattle.mergecap.specs.Packets.{all_timed}
 use Rattle.replies.specs.Commands as asked
-use Rattle.replies.specs.CommandSeen.{question_seen}
+use Rattle.replies.specs.Commands.{question_seen}
 use Rattle.replies.specs.declared.refusal.Refusal.TheVariants.{NoCommand}
 use Rattle.session.specs.declared.kept_packets.AddAnswer.TheVariants as answers
 use Rattle.session.specs.Taking.{AsksToAdd, Takes}
-use Rattle.session.proofs.TakingOver.{line_takes, line_refused, question_adds_none, where_err}
+use Rattle.session.proofs.TakingOver.{line_takes, line_refused, where_err}
 use Rattle.session.proofs.session.Session.take_add.Goals as goal
 
 pub returns-in-Some-Add-clause-takes : goal.returns-in-Some-Add-clause-takes
@@ -30,7 +30,7 @@ returns-in-Some-Keep-clause-takes g c =
 pub returns-in-Some-Ask-clause-takes : goal.returns-in-Some-Ask-clause-takes
 returns-in-Some-Ask-clause-takes g c =
     line_refused c.args.self.now (g.F.Files.told c.args.files.now) c.args.line.now (all_timed c.args.kept.now.items) (all_timed c.args.kept.now.items) (answers.Refused c.refused_text-in-Some-Ask.result)
-    (Some (question_seen c.in-Some-Ask.field-0-0)) (rw c.in-Some-Ask.field-0-is at c.in-Some-Ask.ensures) (question_adds_none c.in-Some-Ask.field-0-0) (λ old new text is. ((NoCommand, is), is ∙ sym c.refused_text-in-Some-Ask.ensures, refl)) refl
+    (Some (asked.Ask (question_seen c.in-Some-Ask.field-0-0))) (rw c.in-Some-Ask.field-0-is at c.in-Some-Ask.ensures) refl (λ old new text is. ((NoCommand, is), is ∙ sym c.refused_text-in-Some-Ask.ensures, refl)) refl
 
 pub returns-in-None-clause-takes : goal.returns-in-None-clause-takes
 returns-in-None-clause-takes g c =

@@ -1,0 +1,38 @@
+-- What is true of each command.
+use Rattle.std.proofs.Common.{◌≡◌, inl, inr, List, ℕ, [], ◌∷◌, Option, Some, None, cond, codes, refl}
+use Rattle.std.specs.Str.{bytes_eq}
+use Rattle.queries.specs.declared.comparison.Asked.TheVariants as asked
+use Rattle.replies.specs.Commands.{Command, Add, Keep, Ask, Question, Compare, Time, Merge, Prove, Problem, Report, command_words, IsReadOff}
+
+-- the command that has these words
+abbrev pub command_of : List (List ℕ) → Option Command
+command_of [] = None
+command_of (name ∷ []) =
+    cond (bytes_eq name (codes "merge")) (Some (Ask Merge)) (cond (bytes_eq name (codes "problem")) (Some (Ask Problem)) (cond (bytes_eq name (codes "report")) (Some (Ask Report)) None))
+command_of (name ∷ event ∷ []) = cond (bytes_eq name (codes "time")) (Some (Ask (Time event))) (Some (Keep event))
+command_of (name ∷ first ∷ second ∷ []) =
+    cond (bytes_eq name (codes "add")) (Some (Add first second)) (cond (bytes_eq name (codes "interval")) (Some (Ask (Compare asked.Interval first second)))
+    (cond (bytes_eq name (codes "order")) (Some (Ask (Compare asked.Order first second))) (Some (Ask (Prove first second)))))
+command_of (name ∷ first ∷ second ∷ third ∷ more) = None
+
+pub words_tell : (c : Command) → command_of (command_words c) ≡ Some c
+words_tell (Add label path) = refl
+words_tell (Keep event) = refl
+words_tell (Ask (Compare asked.Interval first second)) = refl
+words_tell (Ask (Compare asked.Order first second)) = refl
+words_tell (Ask (Time event)) = refl
+words_tell (Ask Merge) = refl
+words_tell (Ask (Prove first second)) = refl
+words_tell (Ask Problem) = refl
+words_tell (Ask Report) = refl
+
+-- what is read off rows of some events is read off rows of others, where all of those are among these
+module _ (Has Other : List ℕ → Type 0) (each : (name : List ℕ) → Has name → Other name) where
+  pub read_off : (q : Question) → IsReadOff Has q → IsReadOff Other q
+  read_off (Compare what first second) (inl has) = inl (each first has)
+  read_off (Compare what first second) (inr has) = inr (each second has)
+  read_off (Time event) is = tt
+  read_off Merge is = tt
+  read_off (Prove first second) is = each first is
+  read_off Problem is = tt
+  read_off Report is = tt
