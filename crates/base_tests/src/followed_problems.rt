@@ -1,8 +1,5 @@
-ghost use Rattle.std.specs.Prelude.{◌<◌};
-
-use ports::MemSink;
-use problem::{Problem, ProblemError, read_problem};
-use problem_text::write_problem;
+// Problems with clocks that follow each other, read.
+use problem::{ProblemError, read_problem};
 use std::alloc::Global;
 use std::test::*;
 
@@ -17,31 +14,6 @@ const TEXTS: [&str; 5] = [
     event p c 10\nevent q e 0\nevent r d 0\nend\n",
     "problem 2\nclock c 0 0 0 0\nclock d 0 0 0 0\nclock e 0 0 0 0\nfollow d e 4611686018427387903\nfollow c d 0\nend\n",
 ];
-
-// A sink with room for each of these texts that takes at most so many bytes in a call.
-fn sink(alloc: Global, most: u32) -> Option<MemSink>
-    requires { 0 < most }
-{
-    MemSink::new(alloc, 5_000, most, &[]).ok()
-}
-
-// Whether a problem is written as this text in calls of at most so many bytes.
-fn is_written(alloc: Global, p: &Problem, most: u32, text: &str) -> bool
-    requires { 0 < most }
-{
-    match sink(alloc, most) {
-        Some(mut out) => write_problem(p, &mut out).is_ok() && out.bytes() == text.as_bytes(),
-        None => false,
-    }
-}
-
-// Whether a text is read as a problem that is written as this text again.
-fn is_written_again(alloc: Global, text: &str) -> bool {
-    match read_problem(alloc, text.as_bytes()) {
-        Ok(p) => is_written(alloc, &p, 1, text) && is_written(alloc, &p, 5_000, text),
-        Err(_) => false,
-    }
-}
 
 // The fault of a text, if it has one.
 fn fault_of(alloc: Global, text: &[u8]) -> Option<ProblemError> {
@@ -182,9 +154,9 @@ const HEADS: [&str; 6] = [
 ];
 
 #[test]
-fn problems_with_follows_are_written_again(rt: HostRuntime) {
+fn problems_with_follows_are_read(rt: HostRuntime) {
     for text in TEXTS {
-        assert!(rt; is_written_again(rt.alloc(), text), "{text}");
+        assert!(rt; fault_of(rt.alloc(), text.as_bytes()).is_none(), "{text}");
     }
 }
 

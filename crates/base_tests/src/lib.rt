@@ -6,9 +6,8 @@
 //! a call below fails (`ports`), `values` values and their places (`interner`).
 //!
 //! `problems` has problems that are pushed or read, and their faults; `follows` one of two clocks of which one follows
-//! the other, by pushes, and `followed_problems` texts of such problems (`problem`); `problem_texts` problems that are
-//! written (`problem_text`); `texts` the bytes of a trial's logs, script and declaration, and `declarations` what that
-//! is read as (`trial`).
+//! the other, by pushes, and `followed_problems` texts of such problems (`problem`); `texts` the bytes of a trial's logs,
+//! script and declaration, and `declarations` what that is read as (`trial`).
 #![tactic(auto)]
 
 #[cfg(test)]
@@ -31,8 +30,6 @@ mod lines;
 mod numbers;
 #[cfg(test)]
 mod pieces;
-#[cfg(test)]
-mod problem_texts;
 #[cfg(test)]
 mod problems;
 #[cfg(test)]

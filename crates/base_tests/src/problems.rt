@@ -1,20 +1,34 @@
 use atto::{Nano, Rate};
 use problem::{Listing, Problem, ProblemError, read_problem};
 use problem_model::{Clock, Event, Message, Name};
+use shared_fixtures::TWO_LOGS_PROBLEM;
 use std::alloc::Global;
 use std::process::Abort;
 use std::test::*;
-
-// Two clocks without error, and a message each way with 10 to 20 ns of delay.
-const TWO_LOGS_PROBLEM: &str =
-    "problem 1\nclock a 0 0 0 0\nclock b 0 0 0 0\nevent a#1 a 100\nevent a#2 a 180\nevent b#1 b 250\nevent b#2 b 300\n\
-    message a#1 b#1 10 20\nmessage b#2 a#2 10 20\nend\n";
 
 // The fault of a text, if it has one.
 fn fault_of(rt: &HostRuntime, text: &str) -> Option<ProblemError> {
     match read_problem(rt.alloc(), text.as_bytes()) {
         Ok(_) => None,
         Err(fault) => Some(fault),
+    }
+}
+
+// Nothing; clocks alone, with the least and the greatest numbers; the longest names; each kind of line, with and without
+// a greatest delay.
+const TEXTS: [&str; 4] = [
+    "problem 1\nend\n",
+    "problem 1\nclock a 0 0 0 0\nclock B-2_c.3 999999999 1000000000 4611686018427387903 10\nend\n",
+    "problem 1\nclock a23456789b23456789c23456789d2345 1 20 300 4000\n\
+    event a23456789b23456789c23456789d23456789e23456789#12 a23456789b23456789c23456789d2345 4611686018427387903\nend\n",
+    "problem 1\nclock a 0 0 5 7\nclock b 100 200 0 0\nevent b#1 b 250\nevent a#1 a 100\nevent a#2 a 100\n\
+    message a#1 b#1 10 20\nmessage b#1 a#2 0 none\nmessage a#2 a#1 9 4611686018427387903\nend\n",
+];
+
+#[test]
+fn problems_are_read(rt: HostRuntime) {
+    for text in TEXTS {
+        assert!(rt; fault_of(&rt, text).is_none(), "{text}");
     }
 }
 

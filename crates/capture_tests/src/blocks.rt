@@ -1,7 +1,6 @@
 // Sections, stamps, and blocks that are skipped.
 use crate::fixtures::{BIG_SECTION, CAPTURE, is_packet, read_joined};
-use pcap_stream::Packet;
-use pcapng_stream::CaptureError;
+use captures::{CaptureError, Packet};
 use std::alloc::Global;
 use std::test::*;
 

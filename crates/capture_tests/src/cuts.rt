@@ -2,8 +2,7 @@
 ghost use Rattle.std.specs.Prelude.{◌≤◌};
 
 use crate::fixtures::{CAPTURE, are_both};
-use pcap_stream::Packet;
-use pcapng_stream::{CaptureError, CaptureStream};
+use captures::{CaptureError, CaptureStream, Packet};
 use std::alloc::Global;
 use std::test::*;
 

@@ -1,6 +1,6 @@
 // Captures that are refused.
 use crate::fixtures::{CAPTURE, are_both, read_first};
-use pcapng_stream::{CaptureError, CaptureStream};
+use captures::{CaptureError, CaptureStream};
 use std::alloc::Global;
 use std::test::*;
 

@@ -1,6 +1,5 @@
 // Captures that several modules use.
-use pcap_stream::Packet;
-use pcapng_stream::{CaptureError, CaptureStream};
+use captures::{CaptureError, CaptureStream, Packet};
 use std::alloc::Global;
 
 // A section header, an interface of link type 101 that counts ns, and two packets of 28 bytes, all little-endian.

@@ -1,7 +1,6 @@
 // Interfaces with options: offsets of stamps, and options that are malformed.
 use crate::fixtures::{BIG_SECTION, CAPTURE, read_joined};
-use pcap_stream::Packet;
-use pcapng_stream::CaptureError;
+use captures::{CaptureError, Packet};
 use std::alloc::Global;
 use std::test::*;
 

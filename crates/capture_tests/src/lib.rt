@@ -3,8 +3,8 @@
 //! `cuts` has captures that are cut anywhere; `blocks` sections, stamps, and blocks that are skipped; `interfaces` offsets of
 //! stamps and options that are malformed; `long_blocks` blocks of more than 2^24 bytes; `passed_packets` packets that are
 //! passed over; `faults` captures that are refused, and `second_headers` captures that were put one behind the other;
-//! `limits` captures with more packets than are wanted (`pcapng_stream`); `wide_keys` frames of IPv6 or behind a Linux
-//! cooked header (`wide_headers`); `merged_captures` packets that are arranged, written and read again, those that are
+//! `limits` captures with more packets than are wanted (`captures`); `wide_keys` frames of IPv6 or behind a Linux
+//! cooked header (`headers`); `merged_captures` packets that are arranged, written and read again, those that are
 //! refused, and one whose writing fails (`mergecap`). `fixtures` and `merge_fixtures` have what several of them use.
 #![tactic(auto)]
 

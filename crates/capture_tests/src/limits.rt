@@ -1,7 +1,6 @@
 // Captures with more packets than are wanted.
 use crate::fixtures::CAPTURE;
-use pcap_stream::FirstPackets;
-use pcapng_stream::{CaptureError, CaptureStream};
+use captures::{CaptureError, CaptureStream, FirstPackets};
 use std::alloc::Global;
 use std::test::*;
 

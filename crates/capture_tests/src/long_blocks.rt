@@ -1,7 +1,6 @@
 // Blocks of more than 2^24 bytes.
 use crate::fixtures::{CAPTURE, are_both, read_joined};
-use pcap_stream::Packet;
-use pcapng_stream::{CaptureError, CaptureStream};
+use captures::{CaptureError, CaptureStream, Packet};
 use std::alloc::Global;
 use std::test::*;
 

@@ -3,8 +3,8 @@ ghost use Rattle.std.specs.Prelude.{◌≤◌, ◌<◌, ◌≤ℤ◌, pos, lengt
 ghost use Rattle.capture_tests.specs.Ready.{AreReady};
 
 use atto::Nano;
+use captures::{CaptureStream, Packet};
 use mergecap::{ArrangeError, Stored, arrange, write_capture};
-use pcap_stream::{Packet, PcapStream};
 use ports::{Failed, MemSink};
 use std::alloc::{AllocError, Global};
 
@@ -111,6 +111,6 @@ pub(crate) fn is_read_so(alloc: Global, capture: &[u8], wanted: &[Wanted]) -> Op
         return None;
     }
     let mut packets = Vec::new(alloc);
-    let stream = PcapStream::new(alloc).feed(capture, &mut packets).ok()?;
+    let stream = CaptureStream::new(alloc).feed(capture, &mut packets).ok()?;
     Some(stream.pending() == 0 && are_packets(&packets, wanted))
 }

@@ -2,7 +2,7 @@
 ghost use Rattle.std.specs.Prelude.{◌≤◌};
 
 use crate::fixtures::{BIG_SECTION, CAPTURE};
-use pcapng_stream::{CaptureError, CaptureStream, Passed};
+use captures::{CaptureError, CaptureStream, Passed};
 use std::alloc::Global;
 use std::test::*;
 
@@ -21,14 +21,18 @@ const OBSOLETE: Passed = Passed {
 
 const OTHER: Passed = Passed { other: 1, ..NONE };
 
-// The type of a block, little-endian, and what it counts as: packets, an entry of a journal, events of sysdig, and then
-// names, statistics, secrets, and blocks of somebody's own.
-const TYPES: [([u8; 4], Passed); 10] = [
+// The type of a block, little-endian, and what it counts as: packets, an entry of a journal, events of sysdig, custom
+// blocks, and then events of sysdig with flags, names, statistics, secrets, and blocks of somebody's own.
+const TYPES: [([u8; 4], Passed); 14] = [
     ([3, 0, 0, 0], SIMPLE),
     ([2, 0, 0, 0], OBSOLETE),
     ([9, 0, 0, 0], OTHER),
     ([4, 2, 0, 0], OTHER),
-    ([8, 2, 0, 0], OTHER),
+    ([0x16, 2, 0, 0], OTHER),
+    ([0x21, 2, 0, 0], OTHER),
+    ([0xad, 0x0b, 0, 0], OTHER),
+    ([0xad, 0x0b, 0, 0x40], OTHER),
+    ([8, 2, 0, 0], NONE),
     ([4, 0, 0, 0], NONE),
     ([5, 0, 0, 0], NONE),
     ([10, 0, 0, 0], NONE),

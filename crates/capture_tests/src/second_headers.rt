@@ -1,7 +1,7 @@
 // Classic captures that were put one behind the other: the second header is refused.
 ghost use Rattle.std.specs.Prelude.{◌≤◌, length};
 
-use pcapng_stream::{CaptureError, CaptureStream};
+use captures::{CaptureError, CaptureStream};
 use std::alloc::{AllocError, Global};
 use std::test::*;
 

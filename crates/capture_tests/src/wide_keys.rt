@@ -1,8 +1,7 @@
-ghost use Rattle.std.specs.Prelude.{◌≤◌};
+ghost use Rattle.std.specs.Prelude.{◌≡◌, ◌≤◌};
 
-use ip_headers::Reason;
+use headers::{Network, Reason, Transport, Wanted, decode};
 use std::test::*;
-use wide_headers::{WideDecoded, WideKey, decode_wide};
 
 // A frame, and the link that it was captured on.
 struct Frame {
@@ -116,10 +115,20 @@ const SEGMENT: &[u8] =
 const NARROW: &[u8] =
     b"\x00\x00\x00\x00\x00\x00\x00\x00\x00\x00\x00\x00\x00\x00\x08\x00\x45\x00\x00\x1c\x00\x07\x00\x00\x40\x11\x00\x00\x0a\x00\x00\x01\x0a\x00\x00\x02\x13\x88\x17\x70\x00\x08\x00\x00";
 
+// So much of a payload, and no options.
+fn fields(payload_bytes: u8) -> Wanted
+    ensures { result.payload_bytes ≡ payload_bytes }
+{
+    Wanted {
+        payload_bytes,
+        tcp_options: false,
+    }
+}
+
 fn is_refused(frame: &Frame, reason: Reason) -> bool {
-    match decode_wide(frame.link, frame.bytes, 0) {
-        WideDecoded::NoKey(told) => told == reason,
-        _ => false,
+    match decode(frame.link, frame.bytes, fields(0)) {
+        Ok(_) => false,
+        Err(told) => told == reason,
     }
 }
 
@@ -134,23 +143,33 @@ fn refused(frames: &[Frame], reason: Reason) -> usize {
     count
 }
 
-fn has_addresses(key: &WideKey) -> bool {
-    key.source == 0xfd00_0000_0000_0000_0000_0000_0000_0001
-        && key.target == 0xfd00_0000_0000_0000_0000_0000_0000_0002
+fn has_addresses(network: Network) -> bool {
+    match network {
+        Network::V4 { .. } => false,
+        Network::V6 { source, target } => {
+            source == 0xfd00_0000_0000_0000_0000_0000_0000_0001
+                && target == 0xfd00_0000_0000_0000_0000_0000_0000_0002
+        }
+    }
+}
+
+// UDP from port 5000 to port 6000, of eight bytes.
+fn is_empty_datagram(transport: &Transport) -> bool {
+    match transport {
+        Transport::Tcp(_) => false,
+        Transport::Udp(datagram) => {
+            datagram.source_port == 5000
+                && datagram.target_port == 6000
+                && datagram.length == 8
+                && datagram.payload.is_empty()
+        }
+    }
 }
 
 fn is_datagram(frame: &Frame) -> bool {
-    match decode_wide(frame.link, frame.bytes, 0) {
-        WideDecoded::Wide(key) => {
-            has_addresses(&key)
-                && key.protocol == 17
-                && key.source_port == 5000
-                && key.target_port == 6000
-                && key.sequence == 0
-                && key.length == 8
-                && key.payload.is_empty()
-        }
-        _ => false,
+    match decode(frame.link, frame.bytes, fields(0)) {
+        Ok(key) => has_addresses(key.network) && is_empty_datagram(&key.transport),
+        Err(_) => false,
     }
 }
 
@@ -164,29 +183,38 @@ fn datagrams(frames: &[Frame]) -> usize {
     count
 }
 
+// TCP from port 5000 to port 80 of ten bytes, with this much of its payload.
+fn is_segment_with(transport: &Transport, payload: &[u8]) -> bool {
+    match transport {
+        Transport::Tcp(segment) => {
+            segment.source_port == 5000
+                && segment.target_port == 80
+                && segment.sequence == 1
+                && segment.acknowledged == 2
+                && segment.flags == 0x18
+                && segment.length == 10
+                && segment.payload.as_slice() == payload
+        }
+        Transport::Udp(_) => false,
+    }
+}
+
 fn is_segment(bytes: &[u8], payload_bytes: u8, payload: &[u8]) -> bool
     requires { payload_bytes ≤ 64 }
 {
-    match decode_wide(101, bytes, payload_bytes) {
-        WideDecoded::Wide(key) => {
-            has_addresses(&key)
-                && key.protocol == 6
-                && key.source_port == 5000
-                && key.target_port == 80
-                && key.sequence == 1
-                && key.acknowledged == 2
-                && key.flags == 0x18
-                && key.length == 10
-                && key.payload.as_slice() == payload
-        }
-        _ => false,
+    match decode(101, bytes, fields(payload_bytes)) {
+        Ok(key) => has_addresses(key.network) && is_segment_with(&key.transport, payload),
+        Err(_) => false,
     }
 }
 
 fn is_narrow(bytes: &[u8]) -> bool {
-    match decode_wide(113, bytes, 0) {
-        WideDecoded::Narrow(key) => key.source == 0x0a00_0001 && key.id == 7 && key.length == 8,
-        _ => false,
+    match decode(113, bytes, fields(0)) {
+        Ok(key) => match key.network {
+            Network::V4 { source, id, .. } => source == 0x0a00_0001 && id == 7,
+            Network::V6 { .. } => false,
+        },
+        Err(_) => false,
     }
 }
 

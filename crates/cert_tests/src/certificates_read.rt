@@ -1,8 +1,5 @@
-// Worked texts of certificates, read and written back, and their faults.
-ghost use Rattle.cert.specs.CertificateText.{IsCertOf};
-
-use cert::{Cert, CertError, read_cert, write_cert};
-use ports::MemSink;
+// Worked texts of certificates that are read, and faults of others.
+use cert::{CertError, read_cert};
 use problem::{Problem, read_problem};
 use std::alloc::{AllocError, Global};
 use std::test::*;
@@ -106,27 +103,8 @@ fn fault_of(
     }
 }
 
-// Whether this is written of a certificate.
-fn is_written(alloc: Global, p: &Problem, c: &Cert, want: &[u8]) -> bool
-    requires { IsCertOf p.now c.now }
-{
-    let Ok(mut out) = MemSink::new(alloc, 1024, 256, &[]) else {
-        return false;
-    };
-    write_cert(p, c, &mut out).is_ok() && out.bytes() == want
-}
-
-// Whether a text is read as what is written like it.
-fn is_read_back(alloc: Global, p: &Problem, text: &[u8]) -> bool {
-    let _ = p.readings();
-    match read_cert(alloc, p, text) {
-        Ok(c) => is_written(alloc, p, &c, text),
-        Err(_) => false,
-    }
-}
-
-// The same of the lines, with another text in the place of one.
-pub(crate) fn comes_back(
+// Whether the lines are read as a certificate, with another text in the place of one.
+pub(crate) fn is_read(
     alloc: Global,
     p: &Problem,
     lines: &[&str],
@@ -134,20 +112,20 @@ pub(crate) fn comes_back(
     text: &str,
 ) -> bool {
     match text_with(alloc, lines, place, text) {
-        Ok(bytes) => is_read_back(alloc, p, &bytes),
+        Ok(bytes) => read_cert(alloc, p, &bytes).is_ok(),
         Err(_) => false,
     }
 }
 
-// The first of these texts, each in the place of a line, that does not come back.
-pub(crate) fn first_lost(
+// The first of these texts, each in the place of a line, that is not read.
+pub(crate) fn first_unread(
     alloc: Global,
     p: &Problem,
     lines: &[&str],
     cases: &[(usize, &str)],
 ) -> Option<usize> {
     for (k, (place, text)) in cases.iter().enumerate() {
-        if !comes_back(alloc, p, lines, *place, text) {
+        if !is_read(alloc, p, lines, *place, text) {
             return Some(k);
         }
     }
@@ -166,9 +144,9 @@ const LAWFUL_ENDS: [(usize, &str); 6] = [
 #[test]
 fn certificates_are_read(rt: HostRuntime) {
     let p = read_problem(rt.alloc(), PROBLEM.as_bytes()).expect(&rt, "a problem");
-    assert!(rt; comes_back(rt.alloc(), &p, &CYCLE, 0, ""));
-    assert!(rt; comes_back(rt.alloc(), &p, &RUN, 0, ""));
-    assert_eq!(rt; first_lost(rt.alloc(), &p, &ENDS, &LAWFUL_ENDS), None);
+    assert!(rt; is_read(rt.alloc(), &p, &CYCLE, 0, ""));
+    assert!(rt; is_read(rt.alloc(), &p, &RUN, 0, ""));
+    assert_eq!(rt; first_unread(rt.alloc(), &p, &ENDS, &LAWFUL_ENDS), None);
 }
 
 // Whether this is the fault of a case.

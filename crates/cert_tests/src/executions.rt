@@ -1,15 +1,15 @@
 // Worked executions and their faults, and worked lines of certificates.
 ghost use Rattle.std.specs.Prelude.{IsTrue};
 ghost use Rattle.problem.specs.Listing.{listing_of};
-ghost use Rattle.cert.specs.Listed.{IsNamed};
+ghost use Rattle.cert.specs.Listed.{HasNames};
 
 use crate::certificates_read::text_with;
-use crate::fixtures::TWO_LOGS_PROBLEM;
 use atto::Nano;
 use cert::{CertError, Execution, read_execution, write_step, write_value};
 use ports::MemSink;
 use problem::{Listing, Problem, read_problem};
 use problem_model::Bound;
+use shared_fixtures::TWO_LOGS_PROBLEM;
 use std::alloc::Global;
 use std::test::*;
 
@@ -113,7 +113,7 @@ fn first_faults(rt: HostRuntime) {
 
 // Whether the clock or the events of a bound are those of a problem.
 fn is_named(p: &Problem, bound: &Bound) -> bool
-    ensures { IsTrue result → IsNamed (listing_of p.now) bound.now }
+    ensures { IsTrue result → HasNames (listing_of p.now) bound.now }
 {
     let clocks = p.clocks();
     let events = p.events();
@@ -130,7 +130,7 @@ fn is_named(p: &Problem, bound: &Bound) -> bool
 
 // Whether this is written of a step into a sink.
 fn writes_step(p: &Problem, bound: &Bound, weight: i128, want: &str, out: &mut MemSink) -> bool
-    requires { IsNamed (listing_of p.now) bound.now }
+    requires { HasNames (listing_of p.now) bound.now }
 {
     write_step(p, bound, weight, out).is_ok() && out.bytes() == want.as_bytes()
 }

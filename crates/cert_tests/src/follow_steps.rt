@@ -1,5 +1,5 @@
 // Certificates with steps between clocks that follow each other, read and written back, and the faults of such steps.
-use crate::certificates_read::{Case, comes_back, first_lost, first_wrong};
+use crate::certificates_read::{Case, first_unread, first_wrong, is_read};
 use crate::fixtures::MESSAGE_PROBLEM;
 use cert::CertError;
 use problem::read_problem;
@@ -78,10 +78,10 @@ const LAWFUL_STEPS: [(usize, &str); 6] = [
 #[test]
 fn follow_steps_are_read(rt: HostRuntime) {
     let p = read_problem(rt.alloc(), GAP_PROBLEM.as_bytes()).expect(&rt, "a problem");
-    assert!(rt; comes_back(rt.alloc(), &p, &GAP_CYCLE, 0, ""));
+    assert!(rt; is_read(rt.alloc(), &p, &GAP_CYCLE, 0, ""));
     let chain = read_problem(rt.alloc(), CHAIN_PROBLEM.as_bytes()).expect(&rt, "a problem");
     assert_eq!(rt;
-        first_lost(rt.alloc(), &chain, &CHAIN_ENDS, &LAWFUL_STEPS),
+        first_unread(rt.alloc(), &chain, &CHAIN_ENDS, &LAWFUL_STEPS),
         None
     );
 }

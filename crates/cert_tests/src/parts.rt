@@ -2,10 +2,10 @@
 ghost use Rattle.std.specs.Prelude.{◌≤◌, ◌<◌, IsTrue, IfSome, All, length};
 ghost use Rattle.problem_model.specs.declared.items.Bound.TheVariants as bounds;
 ghost use Rattle.problem_model.specs.Bounds.{Constraint, Declares, IsReading};
-ghost use Rattle.cert.specs.CertificateText.{IsStepOf, HasOneEach, IsEndOf};
+ghost use Rattle.cert.specs.CertificateText.{IsStepOf, HasOneEach};
 
 use atto::{Nano, Units};
-use cert::{Chain, EndProof, Execution, Step};
+use cert::{Chain, Execution, Step};
 use problem::Problem;
 use problem_model::Bound;
 use std::alloc::Global;
@@ -127,59 +127,4 @@ pub(crate) fn execution(alloc: Global, p: &Problem, times: &[i128]) -> Option<Ex
     } else {
         None
     }
-}
-
-// An end with a value and a path, where these real times are as many as the nodes.
-fn limit_by(
-    alloc: Global,
-    p: &Problem,
-    value: i128,
-    path: Chain,
-    times: &[i128],
-) -> Option<EndProof>
-    requires steps { All (IsStepOf p.now) path }
-    requires times { length times.now ≤ 9 }
-    ensures { IfSome result (λ e. IsEndOf p.now e) }
-{
-    let value = Units::new(value)?;
-    match execution(alloc, p, times) {
-        Some(execution) => Some(EndProof::At {
-            value,
-            path,
-            execution,
-        }),
-        None => None,
-    }
-}
-
-// An end with a value, where its parts are of the problem.
-pub(crate) fn limit(
-    alloc: Global,
-    p: &Problem,
-    value: i128,
-    steps: &[(Bound, i128)],
-    times: &[i128],
-) -> Option<EndProof>
-    requires steps { length steps.now ≤ 9 }
-    requires times { length times.now ≤ 9 }
-    ensures { IfSome result (λ e. IsEndOf p.now e) }
-{
-    match chain(alloc, p, steps) {
-        Some(path) => limit_by(alloc, p, value, path, times),
-        None => None,
-    }
-}
-
-// No end, with the clock at this place inside.
-pub(crate) fn cut(alloc: Global, p: &Problem, clock: u32, times: &[i128]) -> Option<EndProof>
-    requires { length times.now ≤ 9 }
-    ensures { IfSome result (λ e. IsEndOf p.now e) }
-{
-    if (clock as usize) >= p.clocks().len() {
-        return None;
-    }
-    Some(EndProof::Unbounded {
-        inside: Vec::from_slice(alloc, &[clock]).ok()?,
-        execution: execution(alloc, p, times)?,
-    })
 }

@@ -3,18 +3,13 @@ use cert::CertError;
 use cert_check::{Answer, Part, Reason};
 use problem::{Problem, read_problem};
 use problem_model::Bound;
+use shared_fixtures::{CONTRADICTING_PROBLEM, HOPELESS_PROBLEM, TWO_LOGS_PROBLEM};
 use std::alloc::{AllocError, Global};
 use std::test::*;
 use widen::judge_text;
 
 // One ns, in units of 1e-9 ns.
 const NS: i128 = 1_000_000_000;
-
-// Two clocks without error, and a message each way with 10 to 20 ns of delay. By the first clock both messages and the 50 ns
-// between them take 95 ns, so the messages together take 45.
-const CONTRADICTING: &str =
-    "problem 1\nclock a 0 0 0 0\nclock b 0 0 0 0\nevent a#1 a 100\nevent a#2 a 195\nevent b#1 b 250\nevent b#2 b 300\n\
-    message a#1 b#1 10 20\nmessage b#2 a#2 10 20\nend\n";
 
 // With 3 ns more each they can; with 2 ns more they take 44 at most.
 const THREE: [&str; 20] = [
@@ -56,11 +51,6 @@ const NO_STEPS: [&str; 12] = [
     "end\n",
 ];
 
-// The same with 80 ns by the first clock, which leaves 30 for the messages.
-const HEALTHY: &str =
-    "problem 1\nclock a 0 0 0 0\nclock b 0 0 0 0\nevent a#1 a 100\nevent a#2 a 180\nevent b#1 b 250\nevent b#2 b 300\n\
-    message a#1 b#1 10 20\nmessage b#2 a#2 10 20\nend\n";
-
 const ZERO: [&str; 11] = [
     "widening 1\n",
     "least 0\n",
@@ -74,10 +64,6 @@ const ZERO: [&str; 11] = [
     "reading b 300 60.000000000\n",
     "end\n",
 ];
-
-// A message takes 20 ns at least between events that are 10 ns apart.
-const HOPELESS: &str =
-    "problem 1\nclock c 0 0 0 0\nevent p c 0\nevent q c 10\nmessage p q 20 none\nend\n";
 
 const NONE: [&str; 8] = [
     "widening 1\n",
@@ -233,7 +219,7 @@ fn widening_by_three_is_judged_from_both_sides(rt: HostRuntime) {
         (15, "", cycle(Reason::Join(3))),
         (19, "", cycle(Reason::Join(7))),
     ];
-    assert!(rt; have_answers(rt.alloc(), CONTRADICTING, &THREE, &cases));
+    assert!(rt; have_answers(rt.alloc(), CONTRADICTING_PROBLEM, &THREE, &cases));
 }
 
 #[test]
@@ -274,7 +260,7 @@ fn changed_lines_of_a_widening_are_told(rt: HostRuntime) {
             Answer::Yes,
         ),
     ];
-    assert!(rt; have_answers(rt.alloc(), CONTRADICTING, &THREE, &cases));
+    assert!(rt; have_answers(rt.alloc(), CONTRADICTING_PROBLEM, &THREE, &cases));
 }
 
 #[test]
@@ -297,7 +283,7 @@ fn cycles_that_show_nothing_are_told(rt: HostRuntime) {
             cycle(Reason::Sum(12 * NS)),
         ),
     ];
-    assert!(rt; have_answers(rt.alloc(), CONTRADICTING, &NO_STEPS, &cases));
+    assert!(rt; have_answers(rt.alloc(), CONTRADICTING_PROBLEM, &NO_STEPS, &cases));
 }
 
 #[test]
@@ -332,7 +318,7 @@ fn texts_of_widenings_have_their_faults(rt: HostRuntime) {
         (20, "end", CertError::Syntax(20)),
         (20, "end\nend\n", CertError::Syntax(21)),
     ];
-    assert!(rt; have_faults(rt.alloc(), CONTRADICTING, &THREE, &cases));
+    assert!(rt; have_faults(rt.alloc(), CONTRADICTING_PROBLEM, &THREE, &cases));
 }
 
 #[test]
@@ -346,7 +332,7 @@ fn nothing_is_widened_where_an_execution_exists(rt: HostRuntime) {
         ),
         (4, "event a#2 80.000000001\n", broken(Bound::Late(1), 0, 1)),
     ];
-    assert!(rt; have_answers(rt.alloc(), HEALTHY, &ZERO, &cases));
+    assert!(rt; have_answers(rt.alloc(), TWO_LOGS_PROBLEM, &ZERO, &cases));
 }
 
 #[test]
@@ -360,7 +346,7 @@ fn cycle_stands_behind_a_widening_above_0_alone(rt: HostRuntime) {
             CertError::Syntax(11),
         ),
     ];
-    assert!(rt; have_faults(rt.alloc(), HEALTHY, &ZERO, &cases));
+    assert!(rt; have_faults(rt.alloc(), TWO_LOGS_PROBLEM, &ZERO, &cases));
 }
 
 #[test]
@@ -374,7 +360,7 @@ fn no_widening_is_judged_by_the_greatest(rt: HostRuntime) {
         ),
         (6, "", cycle(Reason::Join(2))),
     ];
-    assert!(rt; have_answers(rt.alloc(), HOPELESS, &NONE, &cases));
+    assert!(rt; have_answers(rt.alloc(), HOPELESS_PROBLEM, &NONE, &cases));
 }
 
 #[test]
@@ -404,5 +390,5 @@ fn no_widening_has_no_real_times(rt: HostRuntime) {
         (3, "end\n", CertError::Syntax(3)),
         (4, "step delay-most p q 0.000000000\n", CertError::Name(4)),
     ];
-    assert!(rt; have_faults(rt.alloc(), HOPELESS, &NONE, &cases));
+    assert!(rt; have_faults(rt.alloc(), HOPELESS_PROBLEM, &NONE, &cases));
 }

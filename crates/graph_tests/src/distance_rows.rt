@@ -1,13 +1,12 @@
 // Rows of a graph in both directions, and a row that is repaired when an arc more comes.
 ghost use Rattle.std.specs.Prelude.{◌≡◌, ◌<◌, true, length};
-ghost use Rattle.frontier.specs.Keys.{IsEmpty};
 ghost use Rattle.earliest.specs.Values.{IsEarliestOf};
 
-use crate::fixtures::{Link, TWO_CLOCKS, bring_in, execute, fill, graph_from};
+use crate::fixtures::{Link, bring_in, execute, fill, two_clocks};
 use atto::Steps;
-use distances::{repair_from, row_from, row_to};
+use distances::{Search, Side, make_row, repair_row};
 use earliest::Earliest;
-use frontier::Frontier;
+use frontier::IdleQueue;
 use problem_model::Node;
 use row_pool::Cell;
 use std::alloc::Global;
@@ -42,85 +41,44 @@ fn cell(value: i128, parent: u32) -> Cell {
 // Among the events 0 to 2, arcs of weight 5 from 0 to 1, of 2 from 0 to 2, and of -1 from 2 to 1.
 const LINKS: [Link; 3] = [(0, 1, 5), (0, 2, 2), (2, 1, -1)];
 
-// Whether the row from a node, over old cells, has these cells.
-fn from_is<L: Ledger>(
-    g: &Graph,
-    e: &Earliest,
-    front: &mut Frontier,
+// Whether the row of a node, over old cells, has these cells.
+fn row_is<L: Ledger>(
+    search: &Search,
+    queue: &mut IdleQueue,
     p: u32,
     want: [Cell; 4],
     steps: &mut Steps<L>,
 ) -> bool
-    requires nodes { length g.now.nodes ≡ 3 }
-    requires solved { e.now.is_solved ≡ true }
-    requires earliest { IsEarliestOf g.now e.now.values }
+    requires nodes { length search.now.graph.nodes ≡ 3 }
     requires node { p < 3 }
-    requires empty { IsEmpty front.old }
-    requires room { length front.old ≡ 3 }
-    ensures empty { IsEmpty front.new }
-    ensures room { length front.new ≡ 3 }
+    requires room { queue.old ≡ 3 }
+    ensures room { queue.new ≡ 3 }
 {
     let mut row = [OLD; 4];
-    row_from(g, e, p, &mut row, front, steps);
-    row == want
-}
-
-// Whether the row towards a node, over old cells, has these cells.
-fn to_is<L: Ledger>(
-    g: &Graph,
-    e: &Earliest,
-    front: &mut Frontier,
-    p: u32,
-    want: [Cell; 4],
-    steps: &mut Steps<L>,
-) -> bool
-    requires nodes { length g.now.nodes ≡ 3 }
-    requires solved { e.now.is_solved ≡ true }
-    requires earliest { IsEarliestOf g.now e.now.values }
-    requires node { p < 3 }
-    requires empty { IsEmpty front.old }
-    requires room { length front.old ≡ 3 }
-    ensures empty { IsEmpty front.new }
-    ensures room { length front.new ≡ 3 }
-{
-    let mut row = [OLD; 4];
-    row_to(g, e, p, &mut row, front, steps);
+    make_row(search, p, &mut row, queue, steps);
     row == want
 }
 
 // Rows in both directions: a path of two arcs is shorter than one arc, and from node 2 no path leads to node 0.
-fn are_right<L: Ledger>(g: &Graph, e: &Earliest, front: &mut Frontier, steps: &mut Steps<L>) -> bool
+fn are_right<L: Ledger>(
+    g: &Graph,
+    e: &Earliest,
+    queue: &mut IdleQueue,
+    steps: &mut Steps<L>,
+) -> bool
     requires nodes { length g.now.nodes ≡ 3 }
     requires solved { e.now.is_solved ≡ true }
     requires earliest { IsEarliestOf g.now e.now.values }
-    requires empty { IsEmpty front.old }
-    requires room { length front.old ≡ 3 }
+    requires room { queue.old ≡ 3 }
 {
-    let whole = from_is(
-        g,
-        e,
-        front,
-        0,
-        [cell(0, u32::MAX), cell(1, 2), cell(2, 1), NONE],
-        steps,
-    );
-    let part = from_is(
-        g,
-        e,
-        front,
-        2,
-        [NONE, cell(-1, 2), cell(0, u32::MAX), NONE],
-        steps,
-    );
-    let towards = to_is(
-        g,
-        e,
-        front,
-        1,
-        [cell(1, 1), cell(0, u32::MAX), cell(-1, 2), NONE],
-        steps,
-    );
-    whole && part && towards
+    let search = Search::new(g, e, Side::From);
+    let back = search.turned();
+    let whole = [cell(0, u32::MAX), cell(1, 2), cell(2, 1), NONE];
+    let part = [NONE, cell(-1, 2), cell(0, u32::MAX), NONE];
+    let towards = [cell(1, 1), cell(0, u32::MAX), cell(-1, 2), NONE];
+    row_is(&search, queue, 0, whole, steps)
+        && row_is(&search, queue, 2, part, steps)
+        && row_is(&back, queue, 1, towards, steps)
 }
 
 // Whether the earliest execution of three nodes has these rows.
@@ -129,8 +87,8 @@ fn has_rows<L: Ledger>(alloc: Global, g: &Graph, steps: &mut Steps<L>) -> bool {
         return false;
     }
     let mut e = Earliest::new(alloc);
-    let mut front = Frontier::new(alloc);
-    execute(g, &mut e, &mut front, steps) && are_right(g, &e, &mut front, steps)
+    let mut queue = IdleQueue::new(alloc);
+    execute(g, &mut e, &mut queue, steps) && are_right(g, &e, &mut queue, steps)
 }
 
 // The same once the arcs are among the nodes.
@@ -151,10 +109,10 @@ fn rows_have_the_shortest_distances(rt: HostRuntime) {
 fn row_before() -> [Cell; 6] {
     [
         cell(0, u32::MAX),
-        cell(10_000_000_000, 4),
+        cell(10, 4),
         NONE,
         cell(0, 3),
-        cell(10_000_000_000, 0),
+        cell(10, 0),
         NONE,
     ]
 }
@@ -164,10 +122,10 @@ fn row_before() -> [Cell; 6] {
 fn row_after() -> [Cell; 6] {
     [
         cell(0, u32::MAX),
-        cell(10_000_000_000, 4),
+        cell(10, 4),
         cell(20, 8),
         cell(0, 3),
-        cell(10_000_000_000, 0),
+        cell(10, 0),
         cell(20, 7),
     ]
 }
@@ -176,26 +134,27 @@ fn row_after() -> [Cell; 6] {
 fn is_repaired<L: Ledger>(
     g: &mut Graph,
     e: &mut Earliest,
-    front: &mut Frontier,
+    queue: &mut IdleQueue,
     steps: &mut Steps<L>,
 ) -> bool
     requires nodes { length g.old.nodes ≡ 6 }
     requires solved { e.old.is_solved ≡ true }
     requires earliest { IsEarliestOf g.old e.old.values }
-    requires empty { IsEmpty front.old }
-    requires room { length front.old ≡ 6 }
+    requires room { queue.old ≡ 6 }
 {
     g.exact();
     let Some(p) = g.node_of(Node::Event(0)) else {
         return false;
     };
     let mut row = [OLD; 6];
-    row_from(g, e, p, &mut row, front, steps);
+    let before = Search::new(g, e, Side::From);
+    make_row(&before, p, &mut row, queue, steps);
     let was = row == row_before();
-    let Some(arc) = bring_in(g, e, &(0, 2, 20), front, steps) else {
+    let Some(arc) = bring_in(g, e, &(0, 2, 20), queue, steps) else {
         return false;
     };
-    repair_from(g, e, arc, p, &mut row, front, steps);
+    let search = Search::new(g, e, Side::From);
+    repair_row(&search, arc, p, &mut row, queue, steps);
     was && row == row_after()
 }
 
@@ -205,8 +164,8 @@ fn repaired<L: Ledger>(alloc: Global, g: &mut Graph, steps: &mut Steps<L>) -> bo
         return false;
     }
     let mut e = Earliest::new(alloc);
-    let mut front = Frontier::new(alloc);
-    execute(g, &mut e, &mut front, steps) && is_repaired(g, &mut e, &mut front, steps)
+    let mut queue = IdleQueue::new(alloc);
+    execute(g, &mut e, &mut queue, steps) && is_repaired(g, &mut e, &mut queue, steps)
 }
 
 // The graph of the two clocks, and whether its row is repaired.
@@ -214,7 +173,7 @@ fn two_clocks_repaired<L: Ledger>(alloc: Global, blank: Blank) -> bool
     requires { (blank.name ≡ L.name) × (blank.parts ≡ L.parts) × (0 < L.parts) }
 {
     let mut steps = Steps::<L>::open(blank);
-    match graph_from(alloc, TWO_CLOCKS) {
+    match two_clocks(alloc) {
         Some(mut g) => repaired(alloc, &mut g, &mut steps),
         None => false,
     }

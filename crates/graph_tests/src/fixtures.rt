@@ -1,15 +1,12 @@
 // Graphs that several modules are over, arcs that are brought into them, and their earliest executions.
 ghost use Rattle.std.specs.Prelude.{◌≡◌, ◌≤◌, [], false, true, IfSome, OnOk, length, slice_index_or};
-ghost use Rattle.frontier.specs.Keys.{IsEmpty};
 ghost use Rattle.sync_graph.specs.declared.arc.Arc.{Arc};
 ghost use Rattle.sync_graph.specs.Graph.{with_arc};
 ghost use Rattle.earliest.specs.Values.{IsEarliestOf};
 
 use atto::Steps;
 use earliest::{Earliest, Inserted};
-use frontier::Frontier;
-use problem::read_problem;
-use problem_graph::graph_of;
+use frontier::IdleQueue;
 use problem_model::{Bound, Node};
 use std::alloc::{AllocError, Global};
 use std::sync::ledger::Ledger;
@@ -18,29 +15,27 @@ use sync_graph::{Arc, Graph};
 // An arc between two nodes, and its weight.
 pub(crate) type Link = (u32, u32, i128);
 
-// Two clocks of rate 0 whose stamps are exact, without a message. The events p, q and r are the nodes 0 to 2, and their
-// readings the nodes 3 to 5.
-pub(crate) const TWO_CLOCKS: &str =
-    "problem 1\nclock c 0 0 0 0\nclock d 0 0 0 0\nevent p c 0\nevent q c 10\nevent r d 0\nend\n";
+// The bounds of two clocks of rate 0 whose stamps are exact, the second reading of the first one 10 units behind the
+// first. Three events are the nodes 0 to 2, and their readings the nodes 3 to 5.
+const TWO_CLOCKS: [Link; 8] = [
+    (3, 4, 10),
+    (4, 3, -10),
+    (3, 0, 0),
+    (0, 3, 0),
+    (4, 1, 0),
+    (1, 4, 0),
+    (5, 2, 0),
+    (2, 5, 0),
+];
 
-// The graph of a problem's text.
-pub(crate) fn graph_from(alloc: Global, text: &str) -> Option<Graph> {
-    let p = read_problem(alloc, text.as_bytes()).ok()?;
-    graph_of(alloc, &p).ok()
-}
-
-// The first of these arcs that is another in the graph, or is not there. Their weights are in ns, at most 1000.
-pub(crate) fn first_wrong_arc(g: &Graph, arcs: &[Link]) -> Option<usize> {
-    for (k, (from, to, weight)) in arcs.iter().enumerate() {
-        if *weight > 1000 || *weight < -1000 || k >= g.arcs() as usize {
-            return Some(k);
-        }
-        let a = g.arc(k as u32);
-        if a.from != *from || a.to != *to || a.weight != *weight * 1_000_000_000 {
-            return Some(k);
-        }
+// The graph of these.
+pub(crate) fn two_clocks(alloc: Global) -> Option<Graph> {
+    let mut g = Graph::new(alloc);
+    if fill(&mut g, 6, &TWO_CLOCKS) {
+        Some(g)
+    } else {
+        None
     }
-    None
 }
 
 // Appends the event at the next place, and answers its node.
@@ -93,25 +88,23 @@ pub(crate) fn bring_in<L: Ledger>(
     g: &mut Graph,
     e: &mut Earliest,
     link: &Link,
-    front: &mut Frontier,
+    queue: &mut IdleQueue,
     steps: &mut Steps<L>,
 ) -> Option<u32>
     requires solved { e.old.is_solved ≡ true }
     requires earliest { IsEarliestOf g.old e.old.values }
-    requires empty { IsEmpty front.old }
-    requires room { length g.old.nodes ≤ length front.old }
+    requires room { length g.old.nodes ≤ queue.old }
     ensures number { IfSome result (λ arc. arc ≡ length g.old.arcs) }
     ensures pushed { IfSome result (λ arc. (a : Arc) × (g.new ≡ with_arc g.old a)) }
     ensures in_force { IfSome result (λ arc. slice_index_or g.new.in_force arc false ≡ true) }
     ensures nodes { IfSome result (λ arc. length g.new.nodes ≡ length g.old.nodes) }
     ensures solved { IfSome result (λ arc. e.new.is_solved ≡ true) }
     ensures earliest { IfSome result (λ arc. IsEarliestOf g.new e.new.values) }
-    ensures empty { IsEmpty front.new }
-    ensures room { length front.new ≡ length front.old }
+    ensures room { queue.new ≡ queue.old }
 {
     g.exact();
     let arc = push(g, link)?;
-    match e.insert(g, arc, front, steps) {
+    match e.insert(g, arc, queue, steps) {
         Ok(Inserted::Kept) => Some(arc),
         _ => None,
     }
@@ -132,20 +125,19 @@ fn push_values(g: &Graph, e: &mut Earliest) -> Result<(), AllocError>
 pub(crate) fn execute<L: Ledger>(
     g: &Graph,
     e: &mut Earliest,
-    front: &mut Frontier,
+    queue: &mut IdleQueue,
     steps: &mut Steps<L>,
 ) -> bool
     requires values { length e.old.values ≡ 0 }
-    requires front { front.old ≡ [] }
+    requires room { queue.old ≡ 0 }
     ensures solved { result ≡ true → e.new.is_solved ≡ true }
     ensures earliest { result ≡ true → IsEarliestOf g.now e.new.values }
-    ensures empty { result ≡ true → IsEmpty front.new }
-    ensures room { result ≡ true → length front.new ≡ length g.now.nodes }
+    ensures room { result ≡ true → queue.new ≡ length g.now.nodes }
 {
-    if front.reserve(g.nodes()).is_err() || push_values(g, e).is_err() {
+    if queue.reserve(g.nodes()).is_err() || push_values(g, e).is_err() {
         return false;
     }
-    match e.rebuild(g, front, steps) {
+    match e.rebuild(g, queue, steps) {
         Ok(Inserted::Kept) => true,
         _ => false,
     }

@@ -1,93 +1,13 @@
-// The graph of two logs with a message each way, and the lists of a graph whose arcs come and go.
+// The lists of a graph whose arcs come and go.
 ghost use Rattle.std.specs.Prelude.{◌≡◌, ◌<◌, length};
 
-use crate::fixtures::{Link, fill, first_wrong_arc, graph_from, push};
-use atto::{Nano, Steps};
-use problem_model::{Bound, Node};
-use std::alloc::Global;
+use crate::fixtures::{fill, push};
+use atto::Steps;
+use problem_model::Bound;
 use std::marker::Brand;
 use std::sync::ledger::{Blank, Ledger};
 use std::test::*;
 use sync_graph::{Arc, Graph};
-
-// Two logs, and a message in each direction; the clock of b may be 3 ns early and 7 ns late. Events a#1, a#2, b#1 and b#2 are
-// the nodes 0 to 3; their readings 100, 180, 250 and 300 are the nodes 4 to 7.
-const LATE_LOGS_PROBLEM: &str =
-    "problem 1\nclock a 0 0 0 0\nclock b 0 0 3 7\nevent a#1 a 100\nevent a#2 a 180\nevent b#1 b 250\nevent b#2 b 300\n\
-    message a#1 b#1 10 20\nmessage b#2 a#2 10 20\nend\n";
-
-// Tail, head and weight in ns of each arc of that problem: four spans, eight stamps, four delays.
-const ARCS: [Link; 16] = [
-    (4, 5, 80),
-    (5, 4, -80),
-    (6, 7, 50),
-    (7, 6, -50),
-    (4, 0, 0),
-    (0, 4, 0),
-    (5, 1, 0),
-    (1, 5, 0),
-    (6, 2, 7),
-    (2, 6, 3),
-    (7, 3, 7),
-    (3, 7, 3),
-    (0, 2, 20),
-    (2, 0, -10),
-    (3, 1, 20),
-    (1, 3, -10),
-];
-
-// Whether these are the arcs at node 0, leaving it and arriving.
-fn has_arcs_at_first<L: Ledger>(g: &Graph, blank: Blank) -> bool
-    requires { (blank.name ≡ L.name) × (blank.parts ≡ L.parts) × (0 < L.parts) }
-{
-    if g.nodes() == 0 {
-        return false;
-    }
-    let mut steps = Steps::<L>::open(blank);
-    g.leaving(0, 0, &mut steps) == Some(5)
-        && g.leaving(0, 1, &mut steps) == Some(12)
-        && g.leaving(0, 2, &mut steps) == None
-        && g.arriving(0, 0, &mut steps) == Some(4)
-        && g.arriving(0, 1, &mut steps) == Some(13)
-        && g.arriving(0, 2, &mut steps) == None
-}
-
-// Whether the reading 180 of clock a is node 5, and its neighbours are those of each clock.
-fn has_readings(g: &Graph) -> bool {
-    let Some(stamp) = Nano::new(180) else {
-        return false;
-    };
-    g.node_of(Node::Reading(0, stamp)) == Some(5)
-        && g.node_of(Node::Reading(1, stamp)) == None
-        && g.neighbours(0, stamp) == (Some(4), None)
-        && g.neighbours(1, stamp) == (None, Some(6))
-}
-
-// Whether there are as many nodes and arcs as should be, and the ninth arc is the bound that it should be.
-fn has_counts(g: &Graph) -> bool {
-    g.nodes() == 8 && g.arcs() == 16 && g.arc(8).name == Bound::Late(2)
-}
-
-// Whether all of it is that of the problem.
-fn is_its_graph(g: &Graph) -> bool {
-    first_wrong_arc(g, &ARCS).is_none()
-        && has_counts(g)
-        && has_readings(g)
-        && has_arcs_at_first::<Brand>(g, Blank::new(1))
-}
-
-// Whether the problem has this graph.
-fn has_its_graph(alloc: Global) -> bool {
-    match graph_from(alloc, LATE_LOGS_PROBLEM) {
-        Some(g) => is_its_graph(&g),
-        None => false,
-    }
-}
-
-#[test]
-fn a_problem_has_its_graph(rt: HostRuntime) {
-    assert!(rt; has_its_graph(rt.alloc()));
-}
 
 // Whether the arc of a greatest delay from one event to another is appended between the nodes of these numbers, and comes
 // back as it was.

@@ -1,13 +1,12 @@
 // Values as arcs come and go, and values that are made anew.
 ghost use Rattle.std.specs.Prelude.{◌≡◌, ◌<◌, ◌≤◌, [], true, false, slice_index_or, OnOk, length};
-ghost use Rattle.frontier.specs.Keys.{IsEmpty};
 ghost use Rattle.sync_graph.specs.Graph.{no_graph};
 ghost use Rattle.earliest.specs.Values.{IsEarliestOf};
 
 use crate::fixtures::{Link, bring_in, fill, push};
 use atto::Steps;
 use earliest::{Earliest, Inserted};
-use frontier::Frontier;
+use frontier::IdleQueue;
 use problem_model::Node;
 use std::alloc::{AllocError, Global};
 use std::marker::Brand;
@@ -15,18 +14,17 @@ use std::sync::ledger::{Blank, Ledger};
 use std::test::*;
 use sync_graph::Graph;
 
-// Two nodes without arcs, both of value 0, and a frontier with room for them.
-fn begin(g: &mut Graph, e: &mut Earliest, front: &mut Frontier) -> Result<(), AllocError>
+// Two nodes without arcs, both of value 0, and a queue with room for them.
+fn begin(g: &mut Graph, e: &mut Earliest, queue: &mut IdleQueue) -> Result<(), AllocError>
     requires graph { g.old ≡ no_graph }
     requires values { e.old ≡ record { values = []; is_solved = true } }
-    requires front { front.old ≡ [] }
+    requires room { queue.old ≡ 0 }
     ensures nodes { OnOk result (length g.new.nodes ≡ 2) }
     ensures solved { OnOk result (e.new.is_solved ≡ true) }
     ensures earliest { OnOk result (IsEarliestOf g.new e.new.values) }
-    ensures empty { OnOk result (IsEmpty front.new) }
-    ensures room { OnOk result (length front.new ≡ 2) }
+    ensures room { OnOk result (queue.new ≡ 2) }
 {
-    front.reserve(2)?;
+    queue.reserve(2)?;
     g.exact();
     g.push_node(Node::Event(0))?;
     e.push_node()?;
@@ -40,19 +38,18 @@ fn begin(g: &mut Graph, e: &mut Earliest, front: &mut Frontier) -> Result<(), Al
 fn takes_no_more<L: Ledger>(
     g: &mut Graph,
     e: &mut Earliest,
-    front: &mut Frontier,
+    queue: &mut IdleQueue,
     steps: &mut Steps<L>,
 ) -> bool
     requires solved { e.old.is_solved ≡ true }
     requires earliest { IsEarliestOf g.old e.old.values }
-    requires empty { IsEmpty front.old }
-    requires room { length g.old.nodes ≤ length front.old }
+    requires room { length g.old.nodes ≤ queue.old }
 {
     g.exact();
     let Some(arc) = push(g, &(1, 0, 2)) else {
         return false;
     };
-    match e.insert(g, arc, front, steps) {
+    match e.insert(g, arc, queue, steps) {
         Ok(Inserted::Negative(cycle)) => cycle.len() == 2 && !e.solved(),
         _ => false,
     }
@@ -62,7 +59,7 @@ fn takes_no_more<L: Ledger>(
 fn falls<L: Ledger>(
     g: &mut Graph,
     e: &mut Earliest,
-    front: &mut Frontier,
+    queue: &mut IdleQueue,
     arc: u32,
     steps: &mut Steps<L>,
 ) -> bool
@@ -70,14 +67,13 @@ fn falls<L: Ledger>(
     requires in_force { slice_index_or g.old.in_force arc false ≡ true }
     requires solved { e.old.is_solved ≡ true }
     requires earliest { IsEarliestOf g.old e.old.values }
-    requires empty { IsEmpty front.old }
-    requires room { length g.old.nodes ≤ length front.old }
+    requires room { length g.old.nodes ≤ queue.old }
 {
     g.exact();
     let removed = [g.arc(arc)];
     g.withdraw(arc);
     g.exact();
-    e.withdraw(g, &removed, front, steps);
+    e.withdraw(g, &removed, queue, steps);
     e.value(0) == 0
 }
 
@@ -85,27 +81,27 @@ fn falls<L: Ledger>(
 fn takes_one<L: Ledger>(
     g: &mut Graph,
     e: &mut Earliest,
-    front: &mut Frontier,
+    queue: &mut IdleQueue,
     withdrawn: bool,
     steps: &mut Steps<L>,
 ) -> bool
     requires graph { g.old ≡ no_graph }
     requires values { e.old ≡ record { values = []; is_solved = true } }
-    requires front { front.old ≡ [] }
+    requires room { queue.old ≡ 0 }
 {
-    if begin(g, e, front).is_err() {
+    if begin(g, e, queue).is_err() {
         return false;
     }
-    let Some(arc) = bring_in(g, e, &(0, 1, -3), front, steps) else {
+    let Some(arc) = bring_in(g, e, &(0, 1, -3), queue, steps) else {
         return false;
     };
     if e.value(0) != 3 || e.value(1) != 0 {
         return false;
     }
     if withdrawn {
-        falls(g, e, front, arc, steps)
+        falls(g, e, queue, arc, steps)
     } else {
-        takes_no_more(g, e, front, steps)
+        takes_no_more(g, e, queue, steps)
     }
 }
 
@@ -116,8 +112,8 @@ fn is_taken<L: Ledger>(alloc: Global, withdrawn: bool, blank: Blank) -> bool
     let mut steps = Steps::<L>::open(blank);
     let mut g = Graph::new(alloc);
     let mut e = Earliest::new(alloc);
-    let mut front = Frontier::new(alloc);
-    takes_one(&mut g, &mut e, &mut front, withdrawn, &mut steps)
+    let mut queue = IdleQueue::new(alloc);
+    takes_one(&mut g, &mut e, &mut queue, withdrawn, &mut steps)
 }
 
 #[test]
@@ -130,15 +126,14 @@ fn values_fall_once_an_arc_is_withdrawn(rt: HostRuntime) {
     assert!(rt; is_taken::<Brand>(rt.alloc(), true, Blank::new(1)));
 }
 
-// Two values, and a frontier with room for them.
-fn ready(e: &mut Earliest, front: &mut Frontier) -> Result<(), AllocError>
+// Two values, and a queue with room for them.
+fn ready(e: &mut Earliest, queue: &mut IdleQueue) -> Result<(), AllocError>
     requires values { length e.old.values ≡ 0 }
-    requires front { front.old ≡ [] }
+    requires room { queue.old ≡ 0 }
     ensures values { OnOk result (length e.new.values ≡ 2) }
-    ensures empty { OnOk result (IsEmpty front.new) }
-    ensures room { OnOk result (length front.new ≡ 2) }
+    ensures room { OnOk result (queue.new ≡ 2) }
 {
-    front.reserve(2)?;
+    queue.reserve(2)?;
     e.push_node()?;
     e.push_node()?;
     Ok(())
@@ -147,22 +142,20 @@ fn ready(e: &mut Earliest, front: &mut Frontier) -> Result<(), AllocError>
 // Whether the values of two nodes are these when they are made anew, or the graph has a negative cycle where there are none.
 fn anew<L: Ledger>(
     e: &mut Earliest,
-    front: &mut Frontier,
+    queue: &mut IdleQueue,
     g: &Graph,
     want: Option<(i128, i128)>,
     steps: &mut Steps<L>,
 ) -> bool
     requires values { length e.old.values ≡ 2 }
-    requires empty { IsEmpty front.old }
-    requires room { length front.old ≡ 2 }
+    requires room { queue.old ≡ 2 }
     ensures values { length e.new.values ≡ 2 }
-    ensures empty { IsEmpty front.new }
-    ensures room { length front.new ≡ 2 }
+    ensures room { queue.new ≡ 2 }
 {
     if g.nodes() != 2 {
         return false;
     }
-    match e.rebuild(g, front, steps) {
+    match e.rebuild(g, queue, steps) {
         Ok(Inserted::Kept) => want == Some((e.value(0), e.value(1))),
         Ok(Inserted::Negative(_)) => want.is_none(),
         Err(_) => false,
@@ -173,40 +166,38 @@ fn anew<L: Ledger>(
 fn anew_between<L: Ledger>(
     alloc: Global,
     e: &mut Earliest,
-    front: &mut Frontier,
+    queue: &mut IdleQueue,
     links: &[Link],
     want: Option<(i128, i128)>,
     steps: &mut Steps<L>,
 ) -> bool
     requires values { length e.old.values ≡ 2 }
-    requires empty { IsEmpty front.old }
-    requires room { length front.old ≡ 2 }
+    requires room { queue.old ≡ 2 }
     ensures values { length e.new.values ≡ 2 }
-    ensures empty { IsEmpty front.new }
-    ensures room { length front.new ≡ 2 }
+    ensures room { queue.new ≡ 2 }
 {
     let mut g = Graph::new(alloc);
     let is_filled = fill(&mut g, 2, links);
-    anew(e, front, &g, want, steps) && is_filled
+    anew(e, queue, &g, want, steps) && is_filled
 }
 
 // Two arcs without an execution, and then two with one, which is made where the values were not solved.
 fn both_over<L: Ledger>(
     alloc: Global,
     e: &mut Earliest,
-    front: &mut Frontier,
+    queue: &mut IdleQueue,
     steps: &mut Steps<L>,
 ) -> bool
     requires values { length e.old.values ≡ 0 }
-    requires front { front.old ≡ [] }
+    requires room { queue.old ≡ 0 }
 {
-    ready(e, front).is_ok()
-        && anew_between(alloc, e, front, &[(0, 1, -3), (1, 0, 2)], None, steps)
+    ready(e, queue).is_ok()
+        && anew_between(alloc, e, queue, &[(0, 1, -3), (1, 0, 2)], None, steps)
         && !e.solved()
         && anew_between(
             alloc,
             e,
-            front,
+            queue,
             &[(0, 1, -3), (1, 0, 4)],
             Some((3, 0)),
             steps,
@@ -219,8 +210,8 @@ fn both<L: Ledger>(alloc: Global, blank: Blank) -> bool
 {
     let mut steps = Steps::<L>::open(blank);
     let mut e = Earliest::new(alloc);
-    let mut front = Frontier::new(alloc);
-    both_over(alloc, &mut e, &mut front, &mut steps)
+    let mut queue = IdleQueue::new(alloc);
+    both_over(alloc, &mut e, &mut queue, &mut steps)
 }
 
 #[test]

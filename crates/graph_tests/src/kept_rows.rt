@@ -1,14 +1,13 @@
 // Rows that are kept while an arc more is brought in: what is looked up in them is what rows made anew tell.
 ghost use Rattle.std.specs.Prelude.{◌≡◌, ◌<◌, ◌≤◌, true, None, length};
-ghost use Rattle.frontier.specs.Keys.{IsEmpty};
 ghost use Rattle.earliest.specs.Values.{IsEarliestOf};
 ghost use Rattle.repair.specs.Slots.{nothing_kept, AreOwnRows, AreRowsOf};
 
-use crate::fixtures::{Link, TWO_CLOCKS, bring_in, execute, fill, graph_from};
+use crate::fixtures::{Link, bring_in, execute, fill, two_clocks};
 use atto::Steps;
-use distances::{row_from, row_to};
+use distances::{Search, Side, make_row};
 use earliest::Earliest;
-use frontier::Frontier;
+use frontier::IdleQueue;
 use repair::{Kept, rows_of_a_grown_graph};
 use row_pool::{Cell, Pair, Reach, RowPool};
 use std::alloc::Global;
@@ -55,24 +54,23 @@ fn keep<L: Ledger>(
     e: &Earliest,
     node: u32,
     pool: &mut RowPool,
-    front: &mut Frontier,
+    queue: &mut IdleQueue,
     steps: &mut Steps<L>,
 ) -> bool
     requires own { AreOwnRows kept.old pool.old }
     requires rows { AreRowsOf g.now kept.old pool.old }
     requires solved { e.now.is_solved ≡ true }
     requires earliest { IsEarliestOf g.now e.now.values }
-    requires empty { IsEmpty front.old }
-    requires room { length g.now.nodes ≤ length front.old }
+    requires room { length g.now.nodes ≤ queue.old }
     ensures own { AreOwnRows kept.new pool.new }
     ensures rows { AreRowsOf g.now kept.new pool.new }
-    ensures empty { IsEmpty front.new }
-    ensures room { length front.new ≡ length front.old }
+    ensures room { queue.new ≡ queue.old }
 {
     if !kept.present() || node >= g.nodes() || pool.free() < 2 || pool.width() < g.nodes() {
         return false;
     }
-    kept.keep(g, e, node, pool, front, steps).is_ok()
+    let search = Some(Search::new(g, e, Side::From));
+    kept.keep(&search, node, pool, queue, steps).is_ok()
 }
 
 // The same for the node of the source.
@@ -81,7 +79,7 @@ fn keep_source<L: Ledger>(
     g: &Graph,
     e: &Earliest,
     pool: &mut RowPool,
-    front: &mut Frontier,
+    queue: &mut IdleQueue,
     steps: &mut Steps<L>,
 ) -> bool
     requires none { kept.old.source ≡ None }
@@ -89,17 +87,16 @@ fn keep_source<L: Ledger>(
     requires rows { AreRowsOf g.now kept.old pool.old }
     requires solved { e.now.is_solved ≡ true }
     requires earliest { IsEarliestOf g.now e.now.values }
-    requires empty { IsEmpty front.old }
-    requires room { length g.now.nodes ≤ length front.old }
+    requires room { length g.now.nodes ≤ queue.old }
     ensures own { AreOwnRows kept.new pool.new }
     ensures rows { AreRowsOf g.now kept.new pool.new }
-    ensures empty { IsEmpty front.new }
-    ensures room { length front.new ≡ length front.old }
+    ensures room { queue.new ≡ queue.old }
 {
     if !kept.present() || SOURCE >= g.nodes() || pool.free() < 2 || pool.width() < g.nodes() {
         return false;
     }
-    kept.keep_source(g, e, SOURCE, pool, front, steps);
+    let search = Some(Search::new(g, e, Side::From));
+    kept.keep_source(&search, SOURCE, pool, queue, steps);
     true
 }
 
@@ -109,22 +106,20 @@ fn keep_three<L: Ledger>(
     g: &Graph,
     e: &Earliest,
     pool: &mut RowPool,
-    front: &mut Frontier,
+    queue: &mut IdleQueue,
     steps: &mut Steps<L>,
 ) -> bool
     requires kept { kept.old ≡ nothing_kept }
     requires solved { e.now.is_solved ≡ true }
     requires earliest { IsEarliestOf g.now e.now.values }
-    requires empty { IsEmpty front.old }
-    requires room { length g.now.nodes ≤ length front.old }
+    requires room { length g.now.nodes ≤ queue.old }
     ensures own { AreOwnRows kept.new pool.new }
     ensures rows { AreRowsOf g.now kept.new pool.new }
-    ensures empty { IsEmpty front.new }
-    ensures room { length front.new ≡ length front.old }
+    ensures room { queue.new ≡ queue.old }
 {
-    keep_source(kept, g, e, pool, front, steps)
-        && keep(kept, g, e, 0, pool, front, steps)
-        && keep(kept, g, e, 2, pool, front, steps)
+    keep_source(kept, g, e, pool, queue, steps)
+        && keep(kept, g, e, 0, pool, queue, steps)
+        && keep(kept, g, e, 2, pool, queue, steps)
 }
 
 // Brings an arc in, and repairs the rows.
@@ -134,31 +129,30 @@ fn take<L: Ledger>(
     e: &mut Earliest,
     link: &Link,
     pool: &mut RowPool,
-    front: &mut Frontier,
+    queue: &mut IdleQueue,
     steps: &mut Steps<L>,
 ) -> bool
     requires own { AreOwnRows kept.old pool.old }
     requires rows { AreRowsOf g.old kept.old pool.old }
     requires solved { e.old.is_solved ≡ true }
     requires earliest { IsEarliestOf g.old e.old.values }
-    requires empty { IsEmpty front.old }
-    requires room { length g.old.nodes ≤ length front.old }
+    requires room { length g.old.nodes ≤ queue.old }
     ensures own { AreOwnRows kept.new pool.new }
     ensures nodes { result ≡ true → length g.new.nodes ≡ length g.old.nodes }
     ensures solved { result ≡ true → e.new.is_solved ≡ true }
     ensures earliest { result ≡ true → IsEarliestOf g.new e.new.values }
-    ensures empty { IsEmpty front.new }
-    ensures room { length front.new ≡ length front.old }
+    ensures room { queue.new ≡ queue.old }
 {
     rows_of_a_grown_graph();
     g.exact();
     if pool.width() < g.nodes() {
         return false;
     }
-    let Some(arc) = bring_in(g, e, link, front, steps) else {
+    let Some(arc) = bring_in(g, e, link, queue, steps) else {
         return false;
     };
-    kept.after_insert(g, e, arc, pool, front, steps);
+    let search = Search::new(g, e, Side::From);
+    kept.after_insert(&search, arc, pool, queue, steps);
     true
 }
 
@@ -212,24 +206,23 @@ fn is_as_new<L: Ledger>(
     e: &Earliest,
     node: u32,
     pool: &RowPool,
-    front: &mut Frontier,
+    queue: &mut IdleQueue,
     steps: &mut Steps<L>,
 ) -> bool
     requires own { AreOwnRows kept.now pool.now }
     requires solved { e.now.is_solved ≡ true }
     requires earliest { IsEarliestOf g.now e.now.values }
-    requires empty { IsEmpty front.old }
-    requires room { length g.now.nodes ≤ length front.old }
-    ensures empty { IsEmpty front.new }
-    ensures room { length front.new ≡ length front.old }
+    requires room { length g.now.nodes ≤ queue.old }
+    ensures room { queue.new ≡ queue.old }
 {
     if node >= g.nodes() || g.nodes() > 6 {
         return false;
     }
+    let search = Search::new(g, e, Side::From);
     let mut from = [Cell::unknown(); 6];
-    row_from(g, e, node, &mut from, front, steps);
+    make_row(&search, node, &mut from, queue, steps);
     let mut to = [Cell::unknown(); 6];
-    row_to(g, e, node, &mut to, front, steps);
+    make_row(&search.turned(), node, &mut to, queue, steps);
     tells_rows(kept, pool, node, &from, &to)
 }
 
@@ -239,18 +232,17 @@ fn all_as_new<L: Ledger>(
     g: &Graph,
     e: &Earliest,
     pool: &RowPool,
-    front: &mut Frontier,
+    queue: &mut IdleQueue,
     steps: &mut Steps<L>,
 ) -> bool
     requires own { AreOwnRows kept.now pool.now }
     requires solved { e.now.is_solved ≡ true }
     requires earliest { IsEarliestOf g.now e.now.values }
-    requires empty { IsEmpty front.old }
-    requires room { length g.now.nodes ≤ length front.old }
+    requires room { length g.now.nodes ≤ queue.old }
 {
-    is_as_new(kept, g, e, 0, pool, front, steps)
-        && is_as_new(kept, g, e, SOURCE, pool, front, steps)
-        && is_as_new(kept, g, e, 2, pool, front, steps)
+    is_as_new(kept, g, e, 0, pool, queue, steps)
+        && is_as_new(kept, g, e, SOURCE, pool, queue, steps)
+        && is_as_new(kept, g, e, 2, pool, queue, steps)
 }
 
 // Whether the rows of three nodes are right before an arc comes, and repaired when it has come.
@@ -260,20 +252,19 @@ fn are_repaired<L: Ledger>(
     e: &mut Earliest,
     growth: &Growth,
     pool: &mut RowPool,
-    front: &mut Frontier,
+    queue: &mut IdleQueue,
     steps: &mut Steps<L>,
 ) -> bool
     requires kept { kept.old ≡ nothing_kept }
     requires solved { e.old.is_solved ≡ true }
     requires earliest { IsEarliestOf g.old e.old.values }
-    requires empty { IsEmpty front.old }
-    requires room { length g.old.nodes ≤ length front.old }
+    requires room { length g.old.nodes ≤ queue.old }
 {
-    keep_three(kept, g, e, pool, front, steps)
+    keep_three(kept, g, e, pool, queue, steps)
         && tells_all(kept, pool, growth.before)
-        && take(kept, g, e, &growth.arc, pool, front, steps)
+        && take(kept, g, e, &growth.arc, pool, queue, steps)
         && tells_all(kept, pool, growth.after)
-        && all_as_new(kept, g, e, pool, front, steps)
+        && all_as_new(kept, g, e, pool, queue, steps)
 }
 
 // The same over six rows, of three nodes.
@@ -282,24 +273,23 @@ fn in_a_pool<L: Ledger>(
     g: &mut Graph,
     e: &mut Earliest,
     growth: &Growth,
-    front: &mut Frontier,
+    queue: &mut IdleQueue,
     steps: &mut Steps<L>,
 ) -> bool
     requires solved { e.old.is_solved ≡ true }
     requires earliest { IsEarliestOf g.old e.old.values }
-    requires empty { IsEmpty front.old }
-    requires room { length g.old.nodes ≤ length front.old }
+    requires room { length g.old.nodes ≤ queue.old }
 {
     let mut pool = RowPool::new(alloc);
     let mut kept = Kept::new(alloc);
-    pool.reserve(6, 6).is_ok() && are_repaired(&mut kept, g, e, growth, &mut pool, front, steps)
+    pool.reserve(6, 6).is_ok() && are_repaired(&mut kept, g, e, growth, &mut pool, queue, steps)
 }
 
 // Whether rows of the graph are repaired.
 fn grows<L: Ledger>(alloc: Global, g: &mut Graph, growth: &Growth, steps: &mut Steps<L>) -> bool {
     let mut e = Earliest::new(alloc);
-    let mut front = Frontier::new(alloc);
-    execute(g, &mut e, &mut front, steps) && in_a_pool(alloc, g, &mut e, growth, &mut front, steps)
+    let mut queue = IdleQueue::new(alloc);
+    execute(g, &mut e, &mut queue, steps) && in_a_pool(alloc, g, &mut e, growth, &mut queue, steps)
 }
 
 // Whether rows are repaired where an arc comes to others.
@@ -338,10 +328,10 @@ const SAME: Pair = Pair {
     down: Reach::At(0),
 };
 
-// 10 ns behind.
+// 10 units behind.
 const BEHIND: Pair = Pair {
-    up: Reach::At(10_000_000_000),
-    down: Reach::At(-10_000_000_000),
+    up: Reach::At(10),
+    down: Reach::At(-10),
 };
 
 // Nothing is told.
@@ -366,7 +356,7 @@ fn two_clocks_grow<L: Ledger>(alloc: Global, blank: Blank) -> bool
         before: &[SAME, BEHIND, NEVER, SAME, BEHIND, NEVER],
         after: &[SAME, BEHIND, LIMITED, SAME, BEHIND, LIMITED],
     };
-    match graph_from(alloc, TWO_CLOCKS) {
+    match two_clocks(alloc) {
         Some(mut g) => grows(alloc, &mut g, &growth, &mut steps),
         None => false,
     }

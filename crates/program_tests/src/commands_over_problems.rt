@@ -1,10 +1,11 @@
-use crate::fixtures::{
-    CONTRADICTING_PROBLEM, ONE_WAY_PROBLEM, OPEN_PROBLEM, TWO_LOGS_PROBLEM, TWO_LOGS_RUN, USAGE,
-};
+use crate::fixtures::{TWO_LOGS_RUN, USAGE};
 use crate::runs::{Wanted, prints};
 use atto::{NsText, write_decimal};
 use ports::MemFiles;
 use problem_commands::Status;
+use shared_fixtures::{
+    CONTRADICTING_PROBLEM, CYCLE, ONE_WAY_PROBLEM, OPEN_PROBLEM, TWO_LOGS_PROBLEM,
+};
 use std::alloc::{AllocError, Global};
 use std::test::Fail;
 
@@ -254,18 +255,12 @@ const CROSSED: &str =
 const CROSSED_CYCLE: &str =
     "certificate 1\ncycle\nstep early p 0.000000000\nstep late q 0.000000000\nstep delay-least p q -2.000000000\nend\n";
 
-// The contradiction where a host has waited too long.
-const CONTRADICTING_CYCLE: &str =
-    "certificate 1\ncycle\nstep early a#2 0.000000000\nstep span-least a 100 195 -95.000000000\n\
-    step late a#1 0.000000000\nstep delay-most a#1 b#1 20.000000000\nstep early b#1 0.000000000\n\
-    step span-most b 250 300 50.000000000\nstep late b#2 0.000000000\nstep delay-most b#2 a#2 20.000000000\nend\n";
-
 // The sums of the cycles: 20 + 50 + 20 - 95 = -5 ns; 0 + 0 - 2, where the least delay is above the greatest; 39 - 4 * 10
 // over four clocks; and 1000000000 - 1000000100, where one clock may run 100 ppb slow and the other must keep time.
 const SOLVED: [(&str, &str); 7] = [
     ("problem 1\nend\n", "certificate 1\nrun\nend\n"),
     (TWO_LOGS_PROBLEM, TWO_LOGS_RUN),
-    (CONTRADICTING_PROBLEM, CONTRADICTING_CYCLE),
+    (CONTRADICTING_PROBLEM, CYCLE),
     (CROSSED, CROSSED_CYCLE),
     (
         "problem 1\nclock a 0 0 0 0\nclock b 0 0 0 0\nclock c 0 0 0 0\nclock d 0 0 0 0\nevent a1 a 0\nevent a2 a 39\n\
@@ -405,13 +400,7 @@ const INTERVALS: [(&str, &str, &str, Status, &str); 16] = [
         "20.000000000 20.000000000 before\n",
     ),
     (CROSSED, "p", "q", Status::Done, CROSSED_CYCLE),
-    (
-        CONTRADICTING_PROBLEM,
-        "a#1",
-        "b#1",
-        Status::Done,
-        CONTRADICTING_CYCLE,
-    ),
+    (CONTRADICTING_PROBLEM, "a#1", "b#1", Status::Done, CYCLE),
     (CROSSED, "z", "q", Status::UnknownEvent, "unknown event\n"),
     ("problem 3\n", "p", "q", Status::BadProblem, "problem 1 1\n"),
 ];

@@ -1,8 +1,8 @@
 // Each call of a device fails in turn, in a session over two logs.
-use crate::fixtures::TWO_LOGS_DECLARATION;
 use crate::runs::run_over;
 use ports::{MemFiles, MemSink};
 use problem_commands::Status;
+use shared_fixtures::{TWO_LOGS_DECLARATION, added};
 use std::alloc::{AllocError, Global};
 use std::test::Fail;
 
@@ -16,8 +16,8 @@ const SCRIPT: &str = "add a a.csv\nadd b b.csv\ninterval a#1 b#1\norder a#1 b#1\
 
 // The reply to each line.
 const REPLIES: [&str; 6] = [
-    "added events 2 messages 0 withdrawn 0 pending 0 consistent\n",
-    "added events 2 messages 2 withdrawn 0 pending 0 consistent\n",
+    added!(2, 0, 0, 0),
+    added!(2, 2, 0, 0),
     "interval 10.000000000 20.000000000\n",
     "order before\n",
     "merge 4\n0.000000000 a#1\n10.000000000 b#1\n60.000000000 b#2\n80.000000000 a#2\n",
@@ -28,7 +28,7 @@ const REPLIES: [&str; 6] = [
 // The replies where the first log, and where the second one, could not be read.
 const WITHOUT_FIRST: [&str; 6] = [
     "refused 22\n",
-    "added events 2 messages 0 withdrawn 0 pending 0 consistent\n",
+    added!(2, 0, 0, 0),
     "refused 28\n",
     "refused 28\n",
     "merge 2\n0.000000000 b#1\n50.000000000 b#2\n",
@@ -36,7 +36,7 @@ const WITHOUT_FIRST: [&str; 6] = [
 ];
 
 const WITHOUT_SECOND: [&str; 6] = [
-    "added events 2 messages 0 withdrawn 0 pending 0 consistent\n",
+    added!(2, 0, 0, 0),
     "refused 22\n",
     "refused 28\n",
     "refused 28\n",

@@ -3,6 +3,7 @@ use crate::runs::{Wanted, answers};
 use atto::{NsText, write_decimal};
 use ports::{MemFiles, MemSink};
 use problem_commands::Status;
+use shared_fixtures::replies;
 use std::alloc::{AllocError, Global};
 use std::test::Fail;
 
@@ -52,7 +53,10 @@ fn log_of_thousands_of_rows(rt: HostRuntime) -> Result<(), Fail> {
     let wanted = Wanted {
         words: &["session", "d"],
         status: Status::Done,
-        printed: "added events 3000 messages 0 withdrawn 0 pending 0 consistent\ninterval 2999.000000000 2999.000000000\n",
+        printed: replies!(
+            added(3000, 0, 0, 0),
+            "interval 2999.000000000 2999.000000000\n"
+        ),
     };
     assert!(rt; is_answered(rt.alloc(), &wanted)?);
     Ok(())

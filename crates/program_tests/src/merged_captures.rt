@@ -2,14 +2,9 @@
 use crate::runs::run_noted;
 use ports::{MemFiles, MemSink};
 use problem_commands::Status;
+use shared_fixtures::TWO_CAPTURES_DECLARATION;
 use std::alloc::{AllocError, Global};
 use std::test::Fail;
-
-// Two hosts with a capture each, and links both ways.
-const TWO_CAPTURES: &str =
-    "[hosts.a]\naddresses = [\"10.0.0.1\"]\n[hosts.b]\naddresses = [\"10.0.0.2\"]\n\
-    [labels.a]\nhost = \"a\"\nkind = \"capture\"\n[labels.b]\nhost = \"b\"\nkind = \"capture\"\n\
-    [[links]]\nfrom = \"a\"\nto = \"b\"\nleast = 10\nmost = 20\n[[links]]\nfrom = \"b\"\nto = \"a\"\nleast = 10\nmost = 20\n";
 
 // The same beside a log of the first host.
 const WITH_A_LOG: &str =
@@ -193,9 +188,9 @@ fn merges_none(alloc: Global, decl: &str, script: &str) -> Result<bool, AllocErr
 #[test]
 fn captures_are_merged(rt: HostRuntime) -> Result<(), Fail> {
     let alloc = rt.alloc();
-    assert!(rt; merges(alloc, TWO_CAPTURES, "add a a\nadd b b\n")?);
-    assert!(rt; merges(alloc, TWO_CAPTURES, "add b b\nadd a a")?);
-    assert!(rt; merges_none(alloc, TWO_CAPTURES, "")?);
+    assert!(rt; merges(alloc, TWO_CAPTURES_DECLARATION, "add a a\nadd b b\n")?);
+    assert!(rt; merges(alloc, TWO_CAPTURES_DECLARATION, "add b b\nadd a a")?);
+    assert!(rt; merges_none(alloc, TWO_CAPTURES_DECLARATION, "")?);
     Ok(())
 }
 
@@ -250,7 +245,7 @@ fn put_passed(alloc: Global, files: &mut MemFiles) -> Result<(), AllocError> {
 // The declaration and both captures.
 fn files_to_note(alloc: Global) -> Result<MemFiles, AllocError> {
     let mut files = MemFiles::new(alloc, &[])?;
-    files.put("decl", TWO_CAPTURES.as_bytes())?;
+    files.put("decl", TWO_CAPTURES_DECLARATION.as_bytes())?;
     put_cut(alloc, &mut files)?;
     put_passed(alloc, &mut files)?;
     Ok(files)
@@ -303,7 +298,7 @@ struct Case {
 
 const UNMERGED: [Case; 11] = [
     Case {
-        decl: TWO_CAPTURES,
+        decl: TWO_CAPTURES_DECLARATION,
         captures: LAWFUL,
         script: "merge\n",
         fails: &[],
@@ -311,7 +306,7 @@ const UNMERGED: [Case; 11] = [
         printed: "refused 20\n",
     },
     Case {
-        decl: TWO_CAPTURES,
+        decl: TWO_CAPTURES_DECLARATION,
         captures: LAWFUL,
         script: "add a a\n\nadd b b\n",
         fails: &[],
@@ -319,7 +314,7 @@ const UNMERGED: [Case; 11] = [
         printed: "refused 20\n",
     },
     Case {
-        decl: TWO_CAPTURES,
+        decl: TWO_CAPTURES_DECLARATION,
         captures: LAWFUL,
         script: "add a a\nadd c b\nadd b nofile\n",
         fails: &[],
@@ -327,7 +322,7 @@ const UNMERGED: [Case; 11] = [
         printed: "refused 21\n",
     },
     Case {
-        decl: TWO_CAPTURES,
+        decl: TWO_CAPTURES_DECLARATION,
         captures: LAWFUL,
         script: "add a a\nadd b nofile\nadd b b\n",
         fails: &[],
@@ -335,7 +330,7 @@ const UNMERGED: [Case; 11] = [
         printed: "refused 22\n",
     },
     Case {
-        decl: TWO_CAPTURES,
+        decl: TWO_CAPTURES_DECLARATION,
         captures: LAWFUL,
         script: "add a none\n",
         fails: &[],
@@ -343,7 +338,7 @@ const UNMERGED: [Case; 11] = [
         printed: "refused 24 1\n",
     },
     Case {
-        decl: TWO_CAPTURES,
+        decl: TWO_CAPTURES_DECLARATION,
         captures: HELD_UP,
         script: "add a a\nadd b b\n",
         fails: &[],
@@ -351,7 +346,7 @@ const UNMERGED: [Case; 11] = [
         printed: "inconsistent\n",
     },
     Case {
-        decl: TWO_CAPTURES,
+        decl: TWO_CAPTURES_DECLARATION,
         captures: OTHER_LINK,
         script: "add a a\nadd b b\n",
         fails: &[],
@@ -367,7 +362,7 @@ const UNMERGED: [Case; 11] = [
         printed: "range\n",
     },
     Case {
-        decl: TWO_CAPTURES,
+        decl: TWO_CAPTURES_DECLARATION,
         captures: LAWFUL,
         script: "add a a\nadd b b\n",
         fails: &[2],
@@ -375,7 +370,7 @@ const UNMERGED: [Case; 11] = [
         printed: "read fault\n",
     },
     Case {
-        decl: TWO_CAPTURES,
+        decl: TWO_CAPTURES_DECLARATION,
         captures: LAWFUL,
         script: "merge\nadd b b\n",
         fails: &[2],

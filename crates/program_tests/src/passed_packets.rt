@@ -2,6 +2,7 @@
 use crate::runs::{Wanted, answers};
 use ports::{MemFiles, MemSink};
 use problem_commands::Status;
+use shared_fixtures::replies;
 use std::alloc::{AllocError, Global};
 use std::test::Fail;
 
@@ -26,10 +27,12 @@ const CAPTURE: [u8; 236] = [
     0x88, 0, 8, 0, 0, 60, 0, 0, 0, //
 ];
 
-const PRINTED: &str = "added events 2 messages 0 withdrawn 0 pending 0 passed 2 consistent\n\
-    {\"ambiguous\":[],\"consistent\":true,\"events\":2,\"messages\":0,\"nokey\":{\"fragment\":0,\"header\":0,\
+const PRINTED: &str = replies!(
+    added(2, 0, 0, 0, passed 2),
+    "{\"ambiguous\":[],\"consistent\":true,\"events\":2,\"messages\":0,\"nokey\":{\"fragment\":0,\"header\":0,\
     \"length\":0,\"link\":0,\"local\":0,\"other\":0,\"short\":0,\"side\":0},\
-    \"passed\":{\"obsolete\":1,\"other\":0,\"simple\":1},\"unmatched\":2}\n";
+    \"passed\":{\"obsolete\":1,\"other\":0,\"simple\":1},\"unmatched\":2}\n"
+);
 
 fn put_all(files: &mut MemFiles) -> Result<(), AllocError> {
     files.put("d", DECLARATION.as_bytes())?;

@@ -1,7 +1,8 @@
-use crate::fixtures::{TWO_LOGS_DECLARATION, USAGE};
+use crate::fixtures::USAGE;
 use crate::runs::{Wanted, answers, prints, run_over};
 use ports::{MemFiles, MemSink};
 use problem_commands::Status;
+use shared_fixtures::{TWO_CLOCKS_DECLARATION, TWO_LOGS_DECLARATION, replies};
 use std::alloc::{AllocError, Global};
 use std::test::Fail;
 
@@ -17,14 +18,6 @@ const ONE_ADDRESS: &str =
 
 const DRIFTING_SOURCE: &str =
     "source = \"a\"\n[hosts.a]\nshort = 1\n[hosts.b]\n[labels.a]\nhost = \"a\"\nkind = \"log\"\n[labels.b]\nhost = \"b\"\nkind = \"log\"\n";
-
-// A host with two clocks, the first of which the label names that comes first; the same where a label names another host's
-// clock, and where a clock has another host's name.
-const TWO_CLOCKS_DECLARATION: &str =
-    "[hosts.a]\nclocks = [{ name = \"a1\" }, { name = \"a2\", gap = 5 }]\n[hosts.b]\n\
-    [labels.a]\nhost = \"a\"\nkind = \"log\"\nclock = \"a1\"\n[labels.b]\nhost = \"b\"\nkind = \"log\"\n\
-    [labels.r]\nhost = \"a\"\nkind = \"log\"\nclock = \"a2\"\n\
-    [[links]]\nfrom = \"a\"\nto = \"b\"\nleast = 10\nmost = 20\n";
 
 const OTHER_HOSTS_CLOCK: &str =
     "[hosts.a]\nclocks = [{ name = \"a1\" }, { name = \"a2\", gap = 5 }]\n[hosts.b]\n\
@@ -100,11 +93,13 @@ const SESSIONS: [Case; 10] = [
         read_fails: &[],
         write_fails: &[],
         status: Status::Done,
-        printed: "added events 2 messages 0 withdrawn 0 pending 0 consistent\n\
-        added events 2 messages 2 withdrawn 0 pending 0 consistent\ninterval 10.000000000 20.000000000\norder before\n\
-        merge 4\n0.000000000 a#1\n10.000000000 b#1\n60.000000000 b#2\n80.000000000 a#2\nproblem 1\nclock a 0 0 0 0\n\
-        clock b 0 0 0 0\nevent a#1 a 100\nevent a#2 a 180\nevent b#1 b 250\nevent b#2 b 300\nmessage a#1 b#1 10 20\n\
-        message b#2 a#2 10 20\nend\n",
+        printed: replies!(
+            added(2, 0, 0, 0),
+            added(2, 2, 0, 0),
+            "interval 10.000000000 20.000000000\norder before\nmerge 4\n0.000000000 a#1\n10.000000000 b#1\n\
+            60.000000000 b#2\n80.000000000 a#2\nproblem 1\nclock a 0 0 0 0\nclock b 0 0 0 0\nevent a#1 a 100\n\
+            event a#2 a 180\nevent b#1 b 250\nevent b#2 b 300\nmessage a#1 b#1 10 20\nmessage b#2 a#2 10 20\nend\n"
+        ),
     },
     Case {
         decl: TWO_LOGS_DECLARATION,
@@ -114,8 +109,11 @@ const SESSIONS: [Case; 10] = [
         read_fails: &[],
         write_fails: &[],
         status: Status::Done,
-        printed: "added events 2 messages 0 withdrawn 0 pending 0 consistent\n\
-        added events 2 messages 2 withdrawn 0 pending 0 consistent\ninterval 20.000000000 20.000000000\n",
+        printed: replies!(
+            added(2, 0, 0, 0),
+            added(2, 2, 0, 0),
+            "interval 20.000000000 20.000000000\n"
+        ),
     },
     // A host whose second clock begins at least 5 ns behind what its first one showed last.
     Case {
@@ -126,11 +124,14 @@ const SESSIONS: [Case; 10] = [
         read_fails: &[],
         write_fails: &[],
         status: Status::Done,
-        printed: "added events 1 messages 0 withdrawn 0 pending 0 consistent\n\
-        added events 1 messages 0 withdrawn 0 pending 0 consistent\n\
-        added events 2 messages 2 withdrawn 0 pending 0 consistent\ninterval 5.000000000 15.000000000\norder before\n\
-        problem 2\nclock a1 0 0 0 0\nclock a2 0 0 0 0\nclock b 0 0 0 0\nfollow a1 a2 5\nevent a#1 a1 100\n\
-        event b#1 b 250\nevent b#2 b 255\nevent r#1 a2 0\nmessage a#1 b#1 10 20\nmessage r#1 b#2 10 20\nend\n",
+        printed: replies!(
+            added(1, 0, 0, 0),
+            added(1, 0, 0, 0),
+            added(2, 2, 0, 0),
+            "interval 5.000000000 15.000000000\norder before\nproblem 2\nclock a1 0 0 0 0\nclock a2 0 0 0 0\n\
+            clock b 0 0 0 0\nfollow a1 a2 5\nevent a#1 a1 100\nevent b#1 b 250\nevent b#2 b 255\nevent r#1 a2 0\n\
+            message a#1 b#1 10 20\nmessage r#1 b#2 10 20\nend\n"
+        ),
     },
     // A contradiction, and the message that made it withdrawn by a second send of its key.
     Case {
@@ -141,12 +142,16 @@ const SESSIONS: [Case; 10] = [
         read_fails: &[],
         write_fails: &[],
         status: Status::Done,
-        printed: "added events 2 messages 0 withdrawn 0 pending 0 consistent\n\
-        added events 2 messages 2 withdrawn 0 pending 0 inconsistent\ncertificate 1\ncycle\nstep early a#2 0.000000000\n\
-        step span-least a 100 195 -95.000000000\nstep late a#1 0.000000000\nstep delay-most a#1 b#1 20.000000000\n\
-        step early b#1 0.000000000\nstep span-most b 250 300 50.000000000\nstep late b#2 0.000000000\n\
-        step delay-most b#2 a#2 20.000000000\nend\nadded events 1 messages 0 withdrawn 1 pending 0 consistent\n\
-        interval 10.000000000 20.000000000\n",
+        printed: replies!(
+            added(2, 0, 0, 0),
+            added(2, 2, 0, 0, inconsistent),
+            "certificate 1\ncycle\nstep early a#2 0.000000000\nstep span-least a 100 195 -95.000000000\n\
+            step late a#1 0.000000000\nstep delay-most a#1 b#1 20.000000000\nstep early b#1 0.000000000\n\
+            step span-most b 250 300 50.000000000\nstep late b#2 0.000000000\nstep delay-most b#2 a#2 20.000000000\n\
+            end\n",
+            added(1, 0, 1, 0),
+            "interval 10.000000000 20.000000000\n"
+        ),
     },
     // The first read of a log fails; the third is the first behind those of the declaration.
     Case {
@@ -157,8 +162,12 @@ const SESSIONS: [Case; 10] = [
         read_fails: &[],
         write_fails: &[],
         status: Status::Done,
-        printed: "refused 22\nadded events 2 messages 0 withdrawn 0 pending 0 consistent\n\
-        added events 2 messages 2 withdrawn 0 pending 0 consistent\nrefused 22\ninterval 10.000000000 20.000000000\n",
+        printed: replies!(
+            "refused 22\n",
+            added(2, 0, 0, 0),
+            added(2, 2, 0, 0),
+            "refused 22\ninterval 10.000000000 20.000000000\n"
+        ),
     },
     Case {
         decl: TWO_LOGS_DECLARATION,
@@ -168,9 +177,11 @@ const SESSIONS: [Case; 10] = [
         read_fails: &[],
         write_fails: &[],
         status: Status::Done,
-        printed: "added events 2 messages 0 withdrawn 0 pending 0 consistent\n\
-        added events 2 messages 2 withdrawn 0 pending 0 consistent\nrefused 20\nrefused 20\nrefused 21\nrefused 28\n\
-        refused 20\nrefused 29\n",
+        printed: replies!(
+            added(2, 0, 0, 0),
+            added(2, 2, 0, 0),
+            "refused 20\nrefused 20\nrefused 21\nrefused 28\nrefused 20\nrefused 29\n"
+        ),
     },
     // Misspelled commands, and names of events that no label can have.
     Case {
@@ -182,9 +193,11 @@ const SESSIONS: [Case; 10] = [
         read_fails: &[],
         write_fails: &[],
         status: Status::Done,
-        printed: "added events 2 messages 0 withdrawn 0 pending 0 consistent\n\
-        added events 2 messages 2 withdrawn 0 pending 0 consistent\nrefused 20\nrefused 20\nrefused 20\nrefused 28\n\
-        refused 28\n",
+        printed: replies!(
+            added(2, 0, 0, 0),
+            added(2, 2, 0, 0),
+            "refused 20\nrefused 20\nrefused 20\nrefused 28\nrefused 28\n"
+        ),
     },
     // The script fails behind its first line, which has 14 bytes.
     Case {

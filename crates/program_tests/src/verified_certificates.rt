@@ -1,13 +1,13 @@
 // Certificates that are checked: lawful ones, and what is answered of each change.
-use crate::fixtures::{
-    APART_PROBLEM, CONTRADICTING_PROBLEM, ONE_WAY_PROBLEM, OPEN_PROBLEM, TWO_LOGS_PROBLEM,
-};
 use crate::runs::{Wanted, prints, run_over};
 use crate::verify_cases::{
     ACCEPTED, CHANGED_INTERVALS, CHANGED_RUNS_AND_CYCLES, CHANGED_UNBOUNDED, ILL_FORMED, REFUSED,
 };
 use ports::{MemFiles, MemSink};
 use problem_commands::Status;
+use shared_fixtures::{
+    APART_PROBLEM, CONTRADICTING_PROBLEM, ONE_WAY_PROBLEM, OPEN_PROBLEM, TWO_LOGS_PROBLEM,
+};
 use std::alloc::{AllocError, Global};
 use std::test::Fail;
 

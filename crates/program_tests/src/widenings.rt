@@ -1,14 +1,10 @@
 // The least widening of a problem is printed, and judged.
-use crate::fixtures::{CONTRADICTING_PROBLEM, TWO_LOGS_PROBLEM};
 use crate::runs::{Wanted, answers, prints, run_over};
 use ports::{MemFiles, MemSink};
 use problem_commands::Status;
+use shared_fixtures::{CONTRADICTING_PROBLEM, HOPELESS_PROBLEM, TWO_LOGS_PROBLEM};
 use std::alloc::{AllocError, Global};
 use std::test::Fail;
-
-// A message takes 20 ns at least between events that are 10 ns apart.
-const HOPELESS: &str =
-    "problem 1\nclock c 0 0 0 0\nevent p c 0\nevent q c 10\nmessage p q 20 none\nend\n";
 
 // How the text of the widening of the contradicting problem begins.
 const THREE: &str =
@@ -109,7 +105,7 @@ fn least_widening_is_printed_and_judged(rt: HostRuntime) -> Result<(), Fail> {
             "widening 1\nleast 3\nevent a#1 0.000000000\nevent a#2 95.000000000\n"
         )?
     );
-    assert!(rt; widens_so(alloc, HOPELESS, "widening 1\nleast none\ncycle\n")?);
+    assert!(rt; widens_so(alloc, HOPELESS_PROBLEM, "widening 1\nleast none\ncycle\n")?);
     assert!(rt; widens_so(alloc, TWO_LOGS_PROBLEM, ZERO)?);
     Ok(())
 }
@@ -138,7 +134,7 @@ fn what_is_not_there_is_not_widened(rt: HostRuntime) -> Result<(), Fail> {
         ends_so(
             alloc,
             &["widen", "q"],
-            HOPELESS,
+            HOPELESS_PROBLEM,
             Status::ReadFault,
             "read fault\n"
         )?
@@ -156,7 +152,7 @@ fn what_is_not_there_is_not_widened(rt: HostRuntime) -> Result<(), Fail> {
         ends_so(
             alloc,
             &["judge", "p", "w"],
-            HOPELESS,
+            HOPELESS_PROBLEM,
             Status::ReadFault,
             "read fault\n"
         )?

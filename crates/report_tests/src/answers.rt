@@ -3,41 +3,22 @@ ghost use Rattle.problem.specs.Listing.{listing_of};
 ghost use Rattle.problem_graph.specs.ListedStanding.{IsEventAt};
 ghost use Rattle.row_pool.specs.Pool.{free_rows};
 ghost use Rattle.solver.specs.Solution.{IsSolution};
-ghost use Rattle.queries.specs.Asking.{IsReadingAt};
+ghost use Rattle.queries.specs.Asking.{IsListedReading};
 
-use crate::fixtures::CYCLE;
 use atto::{Nano, Steps};
 use ports::{Failed, MemSink};
 use problem::{Listing, Problem, read_problem};
 use problem_solver::solve;
-use queries::{is_consistent, write_interval, write_order, write_proof, write_time};
+use queries::{Comparison, is_consistent, write_comparison, write_proof, write_time};
+use shared_fixtures::{
+    APART_PROBLEM, APART_PROOF, CONTRADICTING_PROBLEM, CYCLE, ONE_WAY_PROBLEM, OPEN_PROBLEM,
+    TWO_LOGS_PROBLEM, TWO_LOGS_PROOF,
+};
 use solver::Solver;
 use std::alloc::Global;
 use std::marker::Brand;
 use std::sync::ledger::{Blank, Ledger};
 use std::test::*;
-
-// Two logs and two messages, one each way. Events a#1, a#2, b#1 and b#2 have the places 0 to 3.
-const TWO_LOGS_PROBLEM: &str =
-    "problem 1\nclock a 0 0 0 0\nclock b 0 0 0 0\nevent a#1 a 100\nevent a#2 a 180\nevent b#1 b 250\nevent b#2 b 300\n\
-    message a#1 b#1 10 20\nmessage b#2 a#2 10 20\nend\n";
-
-// The same, but host a has waited longer than bounds and clocks allow.
-const CONTRADICTING: &str =
-    "problem 1\nclock a 0 0 0 0\nclock b 0 0 0 0\nevent a#1 a 100\nevent a#2 a 195\nevent b#1 b 250\nevent b#2 b 300\n\
-    message a#1 b#1 10 20\nmessage b#2 a#2 10 20\nend\n";
-
-// Nothing ties the two clocks.
-const APART: &str =
-    "problem 1\nclock a 0 0 0 0\nclock b 0 0 0 0\nevent a#1 a 0\nevent b#1 b 0\nend\n";
-
-// A message that may be under way for any time.
-const OPEN: &str =
-    "problem 1\nclock c 0 0 0 0\nclock d 0 0 0 0\nevent p c 5\nevent q d 3\nmessage p q 0 none\nend\n";
-
-// The same, with a least delay.
-const ONE_WAY: &str =
-    "problem 1\nclock c 0 0 0 0\nclock d 0 0 0 0\nevent p c 5\nevent q d 3\nmessage p q 1 none\nend\n";
 
 // Two events at one reading.
 const TOGETHER: &str = "problem 1\nclock c 0 0 0 0\nevent p c 5\nevent q c 5\nend\n";
@@ -51,21 +32,6 @@ const SOURCE: &str =
 // The same without the way back, and the source may stamp 2 ns early or 3 ns late.
 const STRAYING: &str =
     "problem 1\nclock r 0 0 2 3\nclock b 0 0 0 0\nevent r#1 r 1000\nevent b#1 b 250\nmessage r#1 b#1 10 20\nend\n";
-
-// The certificate of events a#1 and b#1 of the two logs.
-const LIMITED: &str =
-    "certificate 1\nends a#1 b#1\nupper 20.000000000\nstep delay-most a#1 b#1 20.000000000\nevent a#1 0.000000000\n\
-    event a#2 80.000000000\nevent b#1 20.000000000\nevent b#2 70.000000000\nreading a 100 0.000000000\n\
-    reading a 180 80.000000000\nreading b 250 20.000000000\nreading b 300 70.000000000\nlower 10.000000000\n\
-    step delay-least a#1 b#1 -10.000000000\nevent a#1 0.000000000\nevent a#2 80.000000000\nevent b#1 10.000000000\n\
-    event b#2 60.000000000\nreading a 100 0.000000000\nreading a 180 80.000000000\nreading b 250 10.000000000\n\
-    reading b 300 60.000000000\nend\n";
-
-// That of two events that nothing ties.
-const UNLIMITED: &str =
-    "certificate 1\nends a#1 b#1\nupper +inf\ninside a\nevent a#1 0.000000000\nevent b#1 0.000000000\n\
-    reading a 0 0.000000000\nreading b 0 0.000000000\nlower -inf\ninside b\nevent a#1 0.000000000\n\
-    event b#1 0.000000000\nreading a 0 0.000000000\nreading b 0 0.000000000\nend\n";
 
 // What may be asked of two events.
 #[derive(Clone, Copy)]
@@ -126,35 +92,35 @@ const CASES: [Case; 9] = [
         order: "order same\n",
     },
     Case {
-        problem: APART,
+        problem: APART_PROBLEM,
         from: 0,
         to: 1,
         interval: "interval -inf +inf\n",
         order: "order open\n",
     },
     Case {
-        problem: OPEN,
+        problem: OPEN_PROBLEM,
         from: 0,
         to: 1,
         interval: "interval 0.000000000 +inf\n",
         order: "order open\n",
     },
     Case {
-        problem: ONE_WAY,
+        problem: ONE_WAY_PROBLEM,
         from: 0,
         to: 1,
         interval: "interval 1.000000000 +inf\n",
         order: "order before\n",
     },
     Case {
-        problem: ONE_WAY,
+        problem: ONE_WAY_PROBLEM,
         from: 1,
         to: 0,
         interval: "interval -inf -1.000000000\n",
         order: "order after\n",
     },
     Case {
-        problem: CONTRADICTING,
+        problem: CONTRADICTING_PROBLEM,
         from: 0,
         to: 3,
         interval: CYCLE,
@@ -214,7 +180,7 @@ const TIMES: [Timed; 10] = [
         written: "time 1008.000000000 1023.000000000\n",
     },
     Timed {
-        problem: APART,
+        problem: APART_PROBLEM,
         clock: 0,
         event: 1,
         fails: &[],
@@ -222,7 +188,7 @@ const TIMES: [Timed; 10] = [
         written: "time -inf +inf\n",
     },
     Timed {
-        problem: OPEN,
+        problem: OPEN_PROBLEM,
         clock: 0,
         event: 1,
         fails: &[],
@@ -230,7 +196,7 @@ const TIMES: [Timed; 10] = [
         written: "time 5.000000000 +inf\n",
     },
     Timed {
-        problem: CONTRADICTING,
+        problem: CONTRADICTING_PROBLEM,
         clock: 0,
         event: 3,
         fails: &[],
@@ -246,7 +212,7 @@ const TIMES: [Timed; 10] = [
         written: "time 1010.0000",
     },
     Timed {
-        problem: CONTRADICTING,
+        problem: CONTRADICTING_PROBLEM,
         clock: 0,
         event: 3,
         fails: &[4],
@@ -264,19 +230,19 @@ const PROOFS: [Asked<'static>; 5] = [
         question: Question::Proof,
         fails: &[],
         answer: Ok(()),
-        written: LIMITED,
+        written: TWO_LOGS_PROOF,
     },
     Asked {
-        problem: APART,
+        problem: APART_PROBLEM,
         from: 0,
         to: 1,
         question: Question::Proof,
         fails: &[],
         answer: Ok(()),
-        written: UNLIMITED,
+        written: APART_PROOF,
     },
     Asked {
-        problem: CONTRADICTING,
+        problem: CONTRADICTING_PROBLEM,
         from: 0,
         to: 3,
         question: Question::Proof,
@@ -294,7 +260,7 @@ const PROOFS: [Asked<'static>; 5] = [
         written: "certificate 1\nends a#",
     },
     Asked {
-        problem: CONTRADICTING,
+        problem: CONTRADICTING_PROBLEM,
         from: 0,
         to: 3,
         question: Question::Proof,
@@ -339,8 +305,34 @@ fn ask<L: Ledger>(
     let first = node_of(p, asked.from)?;
     let second = node_of(p, asked.to)?;
     Some(match asked.question {
-        Question::Interval => write_interval(p, solver, first, second, out, steps),
-        Question::Order => write_order(p, solver, first, second, out, steps),
+        Question::Interval => {
+            let asked = queries::Asked::Interval;
+            write_comparison(
+                p,
+                solver,
+                Comparison {
+                    asked,
+                    first,
+                    second,
+                },
+                out,
+                steps,
+            )
+        }
+        Question::Order => {
+            let asked = queries::Asked::Order;
+            write_comparison(
+                p,
+                solver,
+                Comparison {
+                    asked,
+                    first,
+                    second,
+                },
+                out,
+                steps,
+            )
+        }
         Question::Proof => write_proof(p, solver, first, second, out, steps),
     })
 }
@@ -378,7 +370,7 @@ fn pair_so(alloc: Global, asked: &Asked<'_>) -> Option<bool> {
 
 // The first reading of a clock, by its stamp and its node.
 fn first_reading(p: &Problem, clock: u32) -> Option<(Nano, u32)>
-    ensures { IfSome result (λ reading. IsReadingAt (listing_of p.now) clock reading.0 reading.1) }
+    ensures { IfSome result (λ reading. IsListedReading (listing_of p.now) clock reading.0 reading.1) }
 {
     for place in 0..p.reading_count() {
         let (on, stamp, node) = p.reading_at(place);
@@ -487,7 +479,7 @@ const FAILING: [Asked<'static>; 4] = [
         written: "interval 10.00",
     },
     Asked {
-        problem: CONTRADICTING,
+        problem: CONTRADICTING_PROBLEM,
         from: 0,
         to: 3,
         question: Question::Interval,
@@ -505,7 +497,7 @@ const FAILING: [Asked<'static>; 4] = [
         written: "order b",
     },
     Asked {
-        problem: CONTRADICTING,
+        problem: CONTRADICTING_PROBLEM,
         from: 0,
         to: 3,
         question: Question::Order,
@@ -526,8 +518,8 @@ fn writes_that_fail(rt: HostRuntime) {
 fn consistency(rt: HostRuntime) {
     for (problem, wanted) in [
         (TWO_LOGS_PROBLEM, true),
-        (APART, true),
-        (CONTRADICTING, false),
+        (APART_PROBLEM, true),
+        (CONTRADICTING_PROBLEM, false),
         ("problem 1\nend\n", true),
     ] {
         assert!(rt; consistent(rt.alloc(), problem) == Some(wanted));

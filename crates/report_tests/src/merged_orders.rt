@@ -2,24 +2,21 @@
 ghost use Rattle.std.specs.Prelude.{◌≡◌, ◌<◌};
 ghost use Rattle.decl.specs.Declaration.{IsDeclaration, declaration_of};
 
-use crate::fixtures::{CYCLE, declared, log_of};
+use crate::fixtures::{declared, log_of};
 use atto::Steps;
 use decl::Decl;
 use ports::MemSink;
+use problem_model::MOST_EVENTS;
 use problem_solver::solve;
 use queries::Stop;
 use reference_traces::{messages_in, problem_of};
 use replies::write_merge;
+use shared_fixtures::{CYCLE, TWO_LOGS_DECLARATION};
 use std::alloc::{AllocError, Global};
 use std::marker::Brand;
 use std::sync::ledger::{Blank, Ledger};
 use std::test::*;
 use traces::{Accepted, event_count};
-
-// Two hosts with a log each. A message takes 10 to 20 ns each way.
-const TWO_LOGS_DECLARATION: &str =
-    "[hosts.a]\n[hosts.b]\n[labels.a]\nhost = \"a\"\nkind = \"log\"\n[labels.b]\nhost = \"b\"\nkind = \"log\"\n\
-    [[links]]\nfrom = \"a\"\nto = \"b\"\nleast = 10\nmost = 20\n[[links]]\nfrom = \"b\"\nto = \"a\"\nleast = 10\nmost = 20\n";
 
 // The logs, and what is written of them.
 struct Case {
@@ -85,7 +82,10 @@ fn merge<L: Ledger>(
     requires blank { (blank.name ≡ L.name) × (blank.parts ≡ L.parts) × (0 < L.parts) }
     requires declared { IsDeclaration (declaration_of decl.now) }
 {
-    if logs.len() > 65536 || logs.len() != decl.labels.len() || event_count(logs) > 1 << 21 {
+    if logs.len() > 65536
+        || logs.len() != decl.labels.len()
+        || event_count(logs) > MOST_EVENTS as u64
+    {
         return Err(AllocError);
     }
     let messages = messages_in(alloc, logs)?;

@@ -5,12 +5,12 @@ ghost use Rattle.std.specs.Str.{IsAscii};
 ghost use Rattle.report.specs.Merging.{AreApart};
 ghost use Rattle.report.specs.Report.{HasAsciiKey};
 
-use crate::fixtures::EMPTY_REPORT;
 use ports::MemSink;
 use problem_model::Name;
 use report::{
     MergeKey, NamedGroup, NoKeys, PassedSums, View, merge_order, report_line, write_merge_line,
 };
+use shared_fixtures::EMPTY_REPORT;
 use std::alloc::{AllocError, Global};
 use std::test::*;
 

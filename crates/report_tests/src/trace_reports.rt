@@ -2,21 +2,22 @@
 ghost use Rattle.std.specs.Prelude.{◌≤◌, IfOk};
 ghost use Rattle.decl.specs.Declaration.{IsDeclaration, declaration_of};
 ghost use Rattle.traces.specs.Held.{seen_in};
-ghost use Rattle.reference_traces.specs.Added.{AreAdded};
+ghost use Rattle.reference_traces.specs.Added.{AreAllAdded};
 
-use crate::fixtures::{EMPTY_REPORT, declared, events_of_log};
+use crate::fixtures::{declared, events_of_log};
 use arrayvec::ArrayVec;
 use atto::Nano;
 use captures::Packet;
 use decl::Decl;
 use event_log::WordKey;
-use ip_headers::PacketKey;
+use headers::{Network, PacketKey, Segment, Transport, UserDatagram};
+use problem_model::MOST_EVENTS;
 use reference_traces::Additions;
 use report::{key_text, report_line, view_of};
+use shared_fixtures::EMPTY_REPORT;
 use std::alloc::{AllocError, Global};
 use std::test::*;
 use traces::{Event, Key, event_count, packet_events};
-use wide_headers::WideKey;
 
 // Captures at the hosts a and b, a log at a and two at b.
 const DECLARATION: &[u8] =
@@ -275,7 +276,7 @@ fn added_in_turn(
     turns: &[(u32, u32)],
 ) -> Result<Additions, AllocError>
     requires { IsDeclaration (declaration_of decl) }
-    ensures { IfOk result (λ kept. AreAdded kept.roster kept.matcher (seen_in kept.labels.items)) }
+    ensures { IfOk result (λ kept. AreAllAdded kept.roster kept.matcher (seen_in kept.labels.items)) }
 {
     let mut kept = Additions::new(alloc, decl)?;
     for (label, count) in turns {
@@ -290,10 +291,10 @@ fn added_in_turn(
 
 // The line of the report on what came.
 fn report_on(alloc: Global, kept: &Additions, consistent: bool) -> Option<Vec<u8>>
-    requires { AreAdded kept.now.roster kept.now.matcher (seen_in kept.now.labels.items) }
+    requires { AreAllAdded kept.now.roster kept.now.matcher (seen_in kept.now.labels.items) }
 {
     let decl = kept.roster.decl();
-    if kept.labels.len() != decl.labels.len() || event_count(&kept.labels) > 1 << 21 {
+    if kept.labels.len() != decl.labels.len() || event_count(&kept.labels) > MOST_EVENTS as u64 {
         return None;
     }
     let view = view_of(
@@ -380,39 +381,38 @@ const WIDE_TOLD: [(u8, u128, u128, &[u8], &str); 2] = [
     ),
 ];
 
-fn wide_key(protocol: u8, source: u128, target: u128, bytes: &[u8]) -> Key {
-    let mut payload = ArrayVec::new();
-    let _fits = payload.try_extend_from_slice(bytes);
-    Key::Wide(WideKey {
-        source,
-        target,
-        protocol,
-        source_port: 0,
-        target_port: 65535,
-        sequence: if protocol == 6 { 0xffff_ffff } else { 0 },
-        acknowledged: 0,
-        flags: if protocol == 6 { 255 } else { 0 },
-        length: 40,
-        payload,
-    })
-}
+// Options of a segment, and the text of its key.
+const TIMESTAMPS: &[u8] = b"\x08\x0a\x0d\x6d\x4d\x09\xc9\x04\x00\x11";
 
-fn packet_key(protocol: u8, source: u32, target: u32, bytes: &[u8]) -> Key {
+const TIMESTAMPS_TOLD: &str =
+    "tcp 10.0.0.1:0 10.0.0.2:65535 id 1 seq 4294967295 ack 0 flags 255 length 40 payload - options 080a0d6d4d09c9040011";
+
+// A key with these headers: of TCP with these options where the protocol is 6, and else of UDP.
+fn packet_key(protocol: u8, network: Network, bytes: &[u8], told: &[u8]) -> Key {
     let mut payload = ArrayVec::new();
     let _fits = payload.try_extend_from_slice(bytes);
-    Key::Packet(PacketKey {
-        source,
-        target,
-        protocol,
-        id: 65535,
-        source_port: 0,
-        target_port: 65535,
-        sequence: if protocol == 6 { 0xffff_ffff } else { 0 },
-        acknowledged: 0,
-        flags: if protocol == 6 { 255 } else { 0 },
-        length: 40,
-        payload,
-    })
+    let mut options = ArrayVec::new();
+    let _fits = options.try_extend_from_slice(told);
+    let transport = if protocol == 6 {
+        Transport::Tcp(Segment {
+            source_port: 0,
+            target_port: 65535,
+            sequence: 0xffff_ffff,
+            acknowledged: 0,
+            flags: 255,
+            length: 40,
+            payload,
+            options,
+        })
+    } else {
+        Transport::Udp(UserDatagram {
+            source_port: 0,
+            target_port: 65535,
+            length: 40,
+            payload,
+        })
+    };
+    Key::Packet(PacketKey { network, transport })
 }
 
 fn has_text(alloc: Global, key: &Key, wanted: &str) -> bool {
@@ -432,13 +432,29 @@ fn is_word_told(alloc: Global, word: &str, wanted: &str) -> bool {
 #[test]
 fn keys(rt: HostRuntime) {
     for (protocol, source, target, payload, wanted) in &TOLD {
-        let key = packet_key(*protocol, *source, *target, payload);
+        let network = Network::V4 {
+            source: *source,
+            target: *target,
+            id: 65535,
+        };
+        let key = packet_key(*protocol, network, payload, b"");
         assert!(rt; has_text(rt.alloc(), &key, wanted), "{wanted}");
     }
     for (protocol, source, target, payload, wanted) in &WIDE_TOLD {
-        let key = wide_key(*protocol, *source, *target, payload);
+        let network = Network::V6 {
+            source: *source,
+            target: *target,
+        };
+        let key = packet_key(*protocol, network, payload, b"");
         assert!(rt; has_text(rt.alloc(), &key, wanted), "{wanted}");
     }
+    let network = Network::V4 {
+        source: 0x0a00_0001,
+        target: 0x0a00_0002,
+        id: 1,
+    };
+    let key = packet_key(6, network, b"", TIMESTAMPS);
+    assert!(rt; has_text(rt.alloc(), &key, TIMESTAMPS_TOLD));
     assert!(rt; is_word_told(rt.alloc(), "m1", "log m1"));
     assert!(rt; is_word_told(rt.alloc(), "!udp\"\\~", "log !udp\"\\~"));
 }

@@ -1,10 +1,12 @@
 use crate::fixtures::{
-    CAPTURE_A, CAPTURE_B, CYCLE, MERGED, NO_EVENT, ONE_EVENT, TWO_CAPTURES_DECLARATION, TWO_EVENTS,
-    TWO_LOGS_DECLARATION, TWO_LOGS_PROBLEM, TWO_MESSAGES, answers, put_cut, replies_over,
-    session_over, step,
+    CAPTURE_A, CAPTURE_B, MERGED, NO_EVENT, ONE_EVENT, TWO_EVENTS, TWO_MESSAGES, answers, put_cut,
+    replies_over, session_over, step,
 };
 use ports::{MemFiles, MemSink};
 use session::{Session, Stop};
+use shared_fixtures::{
+    CYCLE, TWO_CAPTURES_DECLARATION, TWO_LOGS_DECLARATION, TWO_LOGS_PROBLEM, added,
+};
 use std::alloc::{AllocError, Global};
 use std::test::*;
 
@@ -27,58 +29,18 @@ const QUESTIONS: [(&str, &str); 5] = [
 // Where the first capture is cut, and the replies to its two pieces.
 const CUTS: [(usize, &str, &str); 14] = [
     (0, NO_EVENT, TWO_EVENTS),
-    (
-        1,
-        "added events 0 messages 0 withdrawn 0 pending 1 consistent\n",
-        TWO_EVENTS,
-    ),
-    (
-        3,
-        "added events 0 messages 0 withdrawn 0 pending 3 consistent\n",
-        TWO_EVENTS,
-    ),
-    (
-        4,
-        "added events 0 messages 0 withdrawn 0 pending 4 consistent\n",
-        TWO_EVENTS,
-    ),
-    (
-        8,
-        "added events 0 messages 0 withdrawn 0 pending 8 consistent\n",
-        TWO_EVENTS,
-    ),
-    (
-        23,
-        "added events 0 messages 0 withdrawn 0 pending 23 consistent\n",
-        TWO_EVENTS,
-    ),
+    (1, added!(0, 0, 0, 1), TWO_EVENTS),
+    (3, added!(0, 0, 0, 3), TWO_EVENTS),
+    (4, added!(0, 0, 0, 4), TWO_EVENTS),
+    (8, added!(0, 0, 0, 8), TWO_EVENTS),
+    (23, added!(0, 0, 0, 23), TWO_EVENTS),
     (24, NO_EVENT, TWO_EVENTS),
-    (
-        39,
-        "added events 0 messages 0 withdrawn 0 pending 15 consistent\n",
-        TWO_EVENTS,
-    ),
-    (
-        40,
-        "added events 0 messages 0 withdrawn 0 pending 16 consistent\n",
-        TWO_EVENTS,
-    ),
-    (
-        67,
-        "added events 0 messages 0 withdrawn 0 pending 43 consistent\n",
-        TWO_EVENTS,
-    ),
+    (39, added!(0, 0, 0, 15), TWO_EVENTS),
+    (40, added!(0, 0, 0, 16), TWO_EVENTS),
+    (67, added!(0, 0, 0, 43), TWO_EVENTS),
     (68, ONE_EVENT, ONE_EVENT),
-    (
-        84,
-        "added events 1 messages 0 withdrawn 0 pending 16 consistent\n",
-        ONE_EVENT,
-    ),
-    (
-        111,
-        "added events 1 messages 0 withdrawn 0 pending 43 consistent\n",
-        ONE_EVENT,
-    ),
+    (84, added!(1, 0, 0, 16), ONE_EVENT),
+    (111, added!(1, 0, 0, 43), ONE_EVENT),
     (112, TWO_EVENTS, NO_EVENT),
 ];
 
@@ -181,15 +143,9 @@ const CASES: [Case; 10] = [
         fails: &[],
         lines: &[
             ("add a later.csv", TWO_EVENTS),
-            (
-                "add b b.csv",
-                "added events 2 messages 2 withdrawn 0 pending 0 inconsistent\n",
-            ),
+            ("add b b.csv", added!(2, 2, 0, 0, inconsistent)),
             ("interval a#1 b#1", CYCLE),
-            (
-                "add b d.csv",
-                "added events 1 messages 0 withdrawn 1 pending 0 consistent\n",
-            ),
+            ("add b d.csv", added!(1, 0, 1, 0)),
             ("interval a#1 b#1", "interval 10.000000000 20.000000000\n"),
         ],
     },
@@ -240,10 +196,7 @@ const CASES: [Case; 10] = [
             ("add c endless.pcap", "refused 25 24\n"),
             ("add c toolong.pcap", "refused 25 68\n"),
             ("add c twice.pcap", "refused 25 24 header\n"),
-            (
-                "add c begun.pcap",
-                "added events 0 messages 0 withdrawn 0 pending 23 consistent\n",
-            ),
+            ("add c begun.pcap", added!(0, 0, 0, 23)),
             ("add c zero.pcap", NO_EVENT),
             ("add l a.csv", TWO_EVENTS),
             ("interval l#1 l#2", "interval 80.000000000 80.000000000\n"),
@@ -254,10 +207,7 @@ const CASES: [Case; 10] = [
         declaration: CAPTURE_DECLARATION,
         fails: &[],
         lines: &[
-            (
-                "add c begun.pcapng",
-                "added events 0 messages 0 withdrawn 0 pending 2 consistent\n",
-            ),
+            ("add c begun.pcapng", added!(0, 0, 0, 2)),
             ("add c zero.pcap", "refused 24 1\n"),
         ],
     },

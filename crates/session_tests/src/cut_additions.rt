@@ -1,11 +1,11 @@
 // Captures cut at each byte, stamps and faults in pcapng, and the longest record.
 use crate::fixtures::{
-    BLOCKS_A, CAPTURE_A, TWO_CAPTURES_DECLARATION, TWO_EVENTS, TWO_MESSAGES, put_cut, replies_over,
-    session_over, step,
+    BLOCKS_A, CAPTURE_A, TWO_EVENTS, TWO_MESSAGES, put_cut, replies_over, session_over, step,
 };
 use atto::{NsText, write_decimal};
 use ports::{MemFiles, MemSink};
 use session::{Session, Stop};
+use shared_fixtures::TWO_CAPTURES_DECLARATION;
 use std::alloc::{AllocError, Global};
 use std::test::*;
 

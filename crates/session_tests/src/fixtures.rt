@@ -6,20 +6,10 @@ use atto::Steps;
 use decl::read_decl;
 use ports::{Files, MemFiles, MemSink};
 use session::{Session, Stop};
+use shared_fixtures::added;
 use std::alloc::{AllocError, Global};
 use std::marker::Brand;
 use std::sync::ledger::{Blank, Ledger};
-
-// Two hosts with a log each, and a link each way.
-pub(crate) const TWO_LOGS_DECLARATION: &str =
-    "[hosts.a]\n[hosts.b]\n[labels.a]\nhost = \"a\"\nkind = \"log\"\n[labels.b]\nhost = \"b\"\nkind = \"log\"\n\
-    [[links]]\nfrom = \"a\"\nto = \"b\"\nleast = 10\nmost = 20\n[[links]]\nfrom = \"b\"\nto = \"a\"\nleast = 10\nmost = 20\n";
-
-// The same two hosts with a capture each.
-pub(crate) const TWO_CAPTURES_DECLARATION: &str =
-    "[hosts.a]\naddresses = [\"10.0.0.1\"]\n[hosts.b]\naddresses = [\"10.0.0.2\"]\n\
-    [labels.a]\nhost = \"a\"\nkind = \"capture\"\n[labels.b]\nhost = \"b\"\nkind = \"capture\"\n\
-    [[links]]\nfrom = \"a\"\nto = \"b\"\nleast = 10\nmost = 20\n[[links]]\nfrom = \"b\"\nto = \"a\"\nleast = 10\nmost = 20\n";
 
 // Two records of 28 bytes under a header of little-endian nanoseconds and link type 101: at 100 ns a packet from
 // 10.0.0.1:5000 to 10.0.0.2:6000, at 180 ns one back.
@@ -60,28 +50,17 @@ pub(crate) const BLOCKS_A: [u8; 180] = [
 ];
 
 // The replies to additions of no event, of one, of two, and of two that make two messages with those before.
-pub(crate) const NO_EVENT: &str = "added events 0 messages 0 withdrawn 0 pending 0 consistent\n";
+pub(crate) const NO_EVENT: &str = added!(0, 0, 0, 0);
 
-pub(crate) const ONE_EVENT: &str = "added events 1 messages 0 withdrawn 0 pending 0 consistent\n";
+pub(crate) const ONE_EVENT: &str = added!(1, 0, 0, 0);
 
-pub(crate) const TWO_EVENTS: &str = "added events 2 messages 0 withdrawn 0 pending 0 consistent\n";
+pub(crate) const TWO_EVENTS: &str = added!(2, 0, 0, 0);
 
-pub(crate) const TWO_MESSAGES: &str =
-    "added events 2 messages 2 withdrawn 0 pending 0 consistent\n";
+pub(crate) const TWO_MESSAGES: &str = added!(2, 2, 0, 0);
 
 // The replies to `merge` and to `problem` when both hosts' traces were added, whether they are logs or captures.
 pub(crate) const MERGED: &str =
     "merge 4\n0.000000000 a#1\n10.000000000 b#1\n60.000000000 b#2\n80.000000000 a#2\n";
-
-pub(crate) const TWO_LOGS_PROBLEM: &str =
-    "problem 1\nclock a 0 0 0 0\nclock b 0 0 0 0\nevent a#1 a 100\nevent a#2 a 180\nevent b#1 b 250\nevent b#2 b 300\n\
-    message a#1 b#1 10 20\nmessage b#2 a#2 10 20\nend\n";
-
-// The contradiction of two messages: the way there and back takes 90 ns at most, and 95 ns by the clock of host a.
-pub(crate) const CYCLE: &str =
-    "certificate 1\ncycle\nstep early a#2 0.000000000\nstep span-least a 100 195 -95.000000000\nstep late a#1 0.000000000\n\
-    step delay-most a#1 b#1 20.000000000\nstep early b#1 0.000000000\nstep span-most b 250 300 50.000000000\n\
-    step late b#2 0.000000000\nstep delay-most b#2 a#2 20.000000000\nend\n";
 
 // A capture of the first host in two pieces, and the one of the other.
 pub(crate) fn put_cut(

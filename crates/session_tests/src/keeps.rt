@@ -1,14 +1,15 @@
 // Sessions that keep events, with the replies to all that is asked of them.
-use crate::fixtures::{TWO_EVENTS, TWO_LOGS_DECLARATION, TWO_MESSAGES, replies_over};
+use crate::fixtures::{TWO_EVENTS, TWO_MESSAGES, replies_over};
 use ports::MemFiles;
 use session::Stop;
+use shared_fixtures::{TWO_LOGS_DECLARATION, added};
 use std::alloc::{AllocError, Global};
 use std::test::*;
 
 // The replies to an addition of one event that takes a message back, and of two that contradict what was declared.
-const TAKEN_BACK: &str = "added events 1 messages 0 withdrawn 1 pending 0 consistent\n";
+const TAKEN_BACK: &str = added!(1, 0, 1, 0);
 
-const CONTRADICTED: &str = "added events 2 messages 2 withdrawn 0 pending 0 inconsistent\n";
+const CONTRADICTED: &str = added!(2, 2, 0, 0, inconsistent);
 
 const LOGS: [(&str, &str); 7] = [
     ("a.csv", "100,send,m1,\n180,receive,m2,\n"),
@@ -30,10 +31,7 @@ type Lines = &'static [(&'static str, &'static str)];
 const NINE: Lines = &[
     ("keep a#1", "refused 28\n"),
     ("keep", "refused 20\n"),
-    (
-        "add a nine.csv",
-        "added events 9 messages 0 withdrawn 0 pending 0 consistent\n",
-    ),
+    ("add a nine.csv", added!(9, 0, 0, 0)),
     ("keep a#1", "kept 1\n"),
     ("keep a#2", "kept 2\n"),
     ("keep a#3", "kept 3\n"),

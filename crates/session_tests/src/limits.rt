@@ -1,7 +1,8 @@
 // Files that have more than a session takes: more than 2^28 bytes, or a log with more than 2^21 rows.
-use crate::fixtures::{TWO_LOGS_DECLARATION, replies_over, session_over, step};
+use crate::fixtures::{replies_over, session_over, step};
 use ports::{FileFail, Files, MemFiles, MemSink};
 use session::{Session, Stop};
+use shared_fixtures::TWO_LOGS_DECLARATION;
 use std::alloc::{AllocError, Global};
 use std::test::*;
 

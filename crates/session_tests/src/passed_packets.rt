@@ -1,7 +1,8 @@
 // A capture in pcapng with packets that are passed over, in two pieces.
-use crate::fixtures::{CAPTURE_B, TWO_CAPTURES_DECLARATION, replies_over};
+use crate::fixtures::{CAPTURE_B, replies_over};
 use ports::MemFiles;
 use session::Stop;
+use shared_fixtures::{TWO_CAPTURES_DECLARATION, added};
 use std::alloc::{AllocError, Global};
 use std::test::*;
 
@@ -29,22 +30,10 @@ const BACK: [u8; 96] = [
 
 // The packets that are passed over are counted in all pieces of their label, and have no number.
 const LINES: [(&str, &str); 6] = [
-    (
-        "add a front",
-        "added events 1 messages 0 withdrawn 0 pending 0 passed 1 consistent\n",
-    ),
-    (
-        "add b b",
-        "added events 2 messages 1 withdrawn 0 pending 0 consistent\n",
-    ),
-    (
-        "add a back",
-        "added events 1 messages 1 withdrawn 0 pending 0 passed 2 consistent\n",
-    ),
-    (
-        "add a empty",
-        "added events 0 messages 0 withdrawn 0 pending 0 passed 2 consistent\n",
-    ),
+    ("add a front", added!(1, 0, 0, 0, passed 1)),
+    ("add b b", added!(2, 1, 0, 0)),
+    ("add a back", added!(1, 1, 0, 0, passed 2)),
+    ("add a empty", added!(0, 0, 0, 0, passed 2)),
     ("interval a#1 a#2", "interval 80.000000000 80.000000000\n"),
     (
         "report",

@@ -1,9 +1,10 @@
 // Sessions over logs and captures, with the replies to all that is asked of them.
-use crate::fixtures::{
-    CYCLE, MERGED, ONE_EVENT, TWO_EVENTS, TWO_LOGS_DECLARATION, TWO_MESSAGES, replies_over,
-};
+use crate::fixtures::{MERGED, ONE_EVENT, TWO_EVENTS, TWO_MESSAGES, replies_over};
 use ports::MemFiles;
 use session::Stop;
+use shared_fixtures::{
+    APART_PROOF, CYCLE, EMPTY_REPORT, TWO_LOGS_DECLARATION, TWO_LOGS_PROOF, added,
+};
 use std::alloc::{AllocError, Global};
 use std::test::*;
 
@@ -20,26 +21,6 @@ const INEXACT_SOURCE_DECLARATION: &str =
 const UNLINKED_CAPTURES_DECLARATION: &str =
     "payload_bytes = 0\n[hosts.a]\naddresses = [\"10.0.0.1\"]\n[hosts.b]\naddresses = [\"10.0.0.2\"]\n\
     [labels.ca]\nhost = \"a\"\nkind = \"capture\"\n[labels.cb]\nhost = \"b\"\nkind = \"capture\"\n";
-
-// The report on nothing.
-const EMPTY_REPORT: &str =
-    "{\"ambiguous\":[],\"consistent\":true,\"events\":0,\"messages\":0,\"nokey\":{\"fragment\":0,\"header\":0,\
-    \"length\":0,\"link\":0,\"local\":0,\"other\":0,\"short\":0,\"side\":0},\"unmatched\":0}\n";
-
-// The certificate of the events a#1 and b#1 of the two logs.
-const PROOF: &str =
-    "certificate 1\nends a#1 b#1\nupper 20.000000000\nstep delay-most a#1 b#1 20.000000000\nevent a#1 0.000000000\n\
-    event a#2 80.000000000\nevent b#1 20.000000000\nevent b#2 70.000000000\nreading a 100 0.000000000\n\
-    reading a 180 80.000000000\nreading b 250 20.000000000\nreading b 300 70.000000000\nlower 10.000000000\n\
-    step delay-least a#1 b#1 -10.000000000\nevent a#1 0.000000000\nevent a#2 80.000000000\nevent b#1 10.000000000\n\
-    event b#2 60.000000000\nreading a 100 0.000000000\nreading a 180 80.000000000\nreading b 250 10.000000000\n\
-    reading b 300 60.000000000\nend\n";
-
-// That of two events that nothing ties.
-const OPEN_PROOF: &str =
-    "certificate 1\nends a#1 b#1\nupper +inf\ninside a\nevent a#1 0.000000000\nevent b#1 0.000000000\n\
-    reading a 0 0.000000000\nreading b 0 0.000000000\nlower -inf\ninside b\nevent a#1 0.000000000\n\
-    event b#1 0.000000000\nreading a 0 0.000000000\nreading b 0 0.000000000\nend\n";
 
 // The logs, by their paths.
 const LOGS: [(&str, &str); 11] = [
@@ -146,7 +127,7 @@ const CASES: [Case; 10] = [
             ),
             ("add b b.csv", TWO_MESSAGES),
             ("merge", MERGED),
-            ("prove a#1 b#1", PROOF),
+            ("prove a#1 b#1", TWO_LOGS_PROOF),
             ("prove a#1 b#3", "refused 28\n"),
             ("time a#1", "refused 29\n"),
             ("time c#1", "refused 28\n"),
@@ -170,10 +151,7 @@ const CASES: [Case; 10] = [
             ("add a late.csv", TWO_EVENTS),
             ("add b b.csv", TWO_MESSAGES),
             ("interval a#1 b#1", "interval 20.000000000 20.000000000\n"),
-            (
-                "add a again.csv",
-                "added events 1 messages 0 withdrawn 1 pending 0 consistent\n",
-            ),
+            ("add a again.csv", added!(1, 0, 1, 0)),
             ("interval a#1 b#1", "interval 20.000000000 30.000000000\n"),
             (
                 "report",
@@ -188,10 +166,7 @@ const CASES: [Case; 10] = [
         declaration: TWO_LOGS_DECLARATION,
         lines: &[
             ("add a later.csv", TWO_EVENTS),
-            (
-                "add b b.csv",
-                "added events 2 messages 2 withdrawn 0 pending 0 inconsistent\n",
-            ),
+            ("add b b.csv", added!(2, 2, 0, 0, inconsistent)),
             ("merge", CYCLE),
             ("prove a#1 b#1", CYCLE),
             ("prove a#1 b#9", "refused 28\n"),
@@ -212,7 +187,7 @@ const CASES: [Case; 10] = [
             ("add b zero.csv", ONE_EVENT),
             ("interval a#1 b#1", "interval -inf +inf\n"),
             ("order a#1 b#1", "order open\n"),
-            ("prove a#1 b#1", OPEN_PROOF),
+            ("prove a#1 b#1", APART_PROOF),
             (
                 "report",
                 "{\"ambiguous\":[],\"consistent\":true,\"events\":2,\"messages\":0,\"nokey\":{\"fragment\":0,\
@@ -237,10 +212,7 @@ const CASES: [Case; 10] = [
             ("add b b250.csv", ONE_EVENT),
             ("time b#1", "refused 29\n"),
             ("time z#1", "refused 28\n"),
-            (
-                "add r r1000.csv",
-                "added events 1 messages 1 withdrawn 0 pending 0 consistent\n",
-            ),
+            ("add r r1000.csv", added!(1, 1, 0, 0)),
             ("time b#1", "time 1010.000000000 1020.000000000\n"),
             ("time r#1", "time 1000.000000000 1000.000000000\n"),
         ],
@@ -272,10 +244,7 @@ const CASES: [Case; 10] = [
                 "merge",
                 "merge 3\n0.000000000 a#1\n0.000000000 b#1 second\n0.000000000 b#2 first one\n",
             ),
-            (
-                "add b odd.csv",
-                "added events 3 messages 0 withdrawn 0 pending 0 consistent\n",
-            ),
+            ("add b odd.csv", added!(3, 0, 0, 0)),
             (
                 "report",
                 "{\"ambiguous\":[{\"key\":\"log a\\\"b\\\\\",\"receives\":[\"b#5\"],\"sends\":[\"b#3\",\"b#4\"]}],\
@@ -288,14 +257,8 @@ const CASES: [Case; 10] = [
     Case {
         declaration: UNLINKED_CAPTURES_DECLARATION,
         lines: &[
-            (
-                "add ca a.pcap",
-                "added events 7 messages 0 withdrawn 0 pending 0 consistent\n",
-            ),
-            (
-                "add cb b.pcap",
-                "added events 4 messages 2 withdrawn 0 pending 0 consistent\n",
-            ),
+            ("add ca a.pcap", added!(7, 0, 0, 0)),
+            ("add cb b.pcap", added!(4, 2, 0, 0)),
             (
                 "report",
                 "{\"ambiguous\":[{\"key\":\"udp 10.0.0.1:5000 10.0.0.2:6000 id 0 length 8 payload -\",\

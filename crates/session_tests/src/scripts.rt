@@ -1,11 +1,11 @@
 ghost use Rattle.std.specs.Prelude.{◌≡◌, ◌<◌};
 ghost use Rattle.decl.specs.Declaration.{IsDeclaration, declaration_of};
 
-use crate::fixtures::TWO_LOGS_DECLARATION;
 use atto::Steps;
 use decl::{Decl, read_decl};
 use ports::{MemFiles, MemSink, MemSource};
 use session::{Ended, answer_script};
+use shared_fixtures::{TWO_LOGS_DECLARATION, replies};
 use std::alloc::{AllocError, Global};
 use std::marker::Brand;
 use std::sync::ledger::{Blank, Ledger};
@@ -128,10 +128,13 @@ const NO_FAULTS: [Case<'static>; 6] = [
         file_fails: &[],
         write_fails: &[],
         ended: Ended::Done,
-        replies: "added events 2 messages 0 withdrawn 0 pending 0 consistent\n\
-        added events 2 messages 2 withdrawn 0 pending 0 consistent\ninterval 10.000000000 20.000000000\norder before\n\
-        problem 1\nclock a 0 0 0 0\nclock b 0 0 0 0\nevent a#1 a 100\nevent a#2 a 180\nevent b#1 b 250\n\
-        event b#2 b 300\nmessage a#1 b#1 10 20\nmessage b#2 a#2 10 20\nend\n",
+        replies: replies!(
+            added(2, 0, 0, 0),
+            added(2, 2, 0, 0),
+            "interval 10.000000000 20.000000000\norder before\nproblem 1\nclock a 0 0 0 0\nclock b 0 0 0 0\n\
+            event a#1 a 100\nevent a#2 a 180\nevent b#1 b 250\nevent b#2 b 300\nmessage a#1 b#1 10 20\n\
+            message b#2 a#2 10 20\nend\n"
+        ),
     },
     // A file that is not there, and one whose first read fails.
     Case {
@@ -140,8 +143,11 @@ const NO_FAULTS: [Case<'static>; 6] = [
         file_fails: &[],
         write_fails: &[],
         ended: Ended::Done,
-        replies: "refused 22\nadded events 2 messages 0 withdrawn 0 pending 0 consistent\nproblem 1\nclock a 0 0 0 0\n\
-        clock b 0 0 0 0\nevent b#1 b 250\nevent b#2 b 300\nend\n",
+        replies: replies!(
+            "refused 22\n",
+            added(2, 0, 0, 0),
+            "problem 1\nclock a 0 0 0 0\nclock b 0 0 0 0\nevent b#1 b 250\nevent b#2 b 300\nend\n"
+        ),
     },
     Case {
         script: b"add a a.csv\nadd a a.csv\nadd b b.csv\norder b#2 a#2\n",
@@ -149,8 +155,12 @@ const NO_FAULTS: [Case<'static>; 6] = [
         file_fails: &[1],
         write_fails: &[],
         ended: Ended::Done,
-        replies: "refused 22\nadded events 2 messages 0 withdrawn 0 pending 0 consistent\n\
-        added events 2 messages 2 withdrawn 0 pending 0 consistent\norder before\n",
+        replies: replies!(
+            "refused 22\n",
+            added(2, 0, 0, 0),
+            added(2, 2, 0, 0),
+            "order before\n"
+        ),
     },
 ];
 

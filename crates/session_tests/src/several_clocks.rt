@@ -3,15 +3,9 @@
 use crate::fixtures::{ONE_EVENT, TWO_EVENTS, TWO_MESSAGES, replies_over};
 use ports::MemFiles;
 use session::Stop;
+use shared_fixtures::{TWO_CLOCKS_DECLARATION, added};
 use std::alloc::{AllocError, Global};
 use std::test::*;
-
-// A host whose clock was set, and another one; a link from the one to the other.
-const TWO_CLOCKS_DECLARATION: &str =
-    "[hosts.a]\nclocks = [{ name = \"a1\" }, { name = \"a2\", gap = 5 }]\n[hosts.b]\n\
-    [labels.a]\nhost = \"a\"\nkind = \"log\"\nclock = \"a1\"\n[labels.b]\nhost = \"b\"\nkind = \"log\"\n\
-    [labels.r]\nhost = \"a\"\nkind = \"log\"\nclock = \"a2\"\n\
-    [[links]]\nfrom = \"a\"\nto = \"b\"\nleast = 10\nmost = 20\n";
 
 // The same where no time is known to be between the clocks, and where the first label does not name one.
 const NO_GAP_DECLARATION: &str =
@@ -178,15 +172,9 @@ const CASES: [Case; 8] = [
         declaration: CHAIN_DECLARATION,
         lines: &[
             ("add p receive.csv", ONE_EVENT),
-            (
-                "add q send.csv",
-                "added events 1 messages 1 withdrawn 0 pending 0 inconsistent\n",
-            ),
+            ("add q send.csv", added!(1, 1, 0, 0, inconsistent)),
             ("interval p#1 q#1", CYCLE),
-            (
-                "add r send.csv",
-                "added events 1 messages 0 withdrawn 1 pending 0 consistent\n",
-            ),
+            ("add r send.csv", added!(1, 0, 1, 0)),
             ("interval p#1 q#1", "interval 5.000000000 +inf\n"),
             ("interval p#1 r#1", "interval 12.000000000 +inf\n"),
         ],

@@ -2,6 +2,7 @@
 use crate::fixtures::{ONE_EVENT, replies_over};
 use ports::MemFiles;
 use session::Stop;
+use shared_fixtures::added;
 use std::alloc::{AllocError, Global};
 use std::test::*;
 
@@ -36,14 +37,8 @@ const FRONTS: [Front; 4] = [
 // The packet is a message, until it was sent once more: then nobody can tell which one was received.
 const LINES: [(&str, &str); 4] = [
     ("add ca a.pcap", ONE_EVENT),
-    (
-        "add cb b.pcap",
-        "added events 1 messages 1 withdrawn 0 pending 0 consistent\n",
-    ),
-    (
-        "add ca again.pcap",
-        "added events 1 messages 0 withdrawn 1 pending 0 consistent\n",
-    ),
+    ("add cb b.pcap", added!(1, 1, 0, 0)),
+    ("add ca again.pcap", added!(1, 0, 1, 0)),
     (
         "report",
         "{\"ambiguous\":[{\"key\":\"udp [fd00:0000:0000:0000:0000:0000:0000:0001]:5000 \

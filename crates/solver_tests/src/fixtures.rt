@@ -12,25 +12,10 @@ use std::alloc::{AllocError, Global};
 use std::marker::Brand;
 use std::sync::ledger::{Blank, Ledger};
 
-// Two logs, and a message in each direction.
-pub(crate) const TWO_LOGS_PROBLEM: &str =
-    "problem 1\nclock a 0 0 0 0\nclock b 0 0 0 0\nevent a#1 a 100\nevent a#2 a 180\nevent b#1 b 250\nevent b#2 b 300\n\
-    message a#1 b#1 10 20\nmessage b#2 a#2 10 20\nend\n";
-
-// The same, where the clock of b may be 3 ns early and 7 ns late. Events a#1, a#2, b#1 and b#2 are the nodes 0 to 3; their
-// readings 100, 180, 250 and 300 are the nodes 4 to 7.
-pub(crate) const LATE_LOGS_PROBLEM: &str =
-    "problem 1\nclock a 0 0 0 0\nclock b 0 0 3 7\nevent a#1 a 100\nevent a#2 a 180\nevent b#1 b 250\nevent b#2 b 300\n\
-    message a#1 b#1 10 20\nmessage b#2 a#2 10 20\nend\n";
-
 // The same logs as those of LATE_LOGS_PROBLEM, but each begins with a receive of what the other one sends last.
 pub(crate) const CIRCLE_PROBLEM: &str =
     "problem 1\nclock a 0 0 0 0\nclock b 0 0 3 7\nevent a#1 a 100\nevent a#2 a 180\nevent b#1 b 250\nevent b#2 b 300\n\
     message a#2 b#1 10 20\nmessage b#2 a#1 10 20\nend\n";
-
-// Two clocks without a message.
-pub(crate) const UNLINKED_PROBLEM: &str =
-    "problem 1\nclock a 0 0 0 0\nclock b 0 0 0 0\nevent a#1 a 0\nevent b#1 b 0\nend\n";
 
 // One event, whose clock may be early or late.
 pub(crate) const ALONE_PROBLEM: &str = "problem 1\nclock a 0 0 2 3\nevent p a 7\nend\n";

@@ -4,11 +4,12 @@ ghost use Rattle.row_pool.specs.Pool.{free_rows};
 ghost use Rattle.solver.specs.Changes.{KeepsAnswer};
 ghost use Rattle.solver.specs.Current.{IsCurrent};
 
-use crate::fixtures::{ALONE_PROBLEM, TWO_LOGS_PROBLEM, UNLINKED_PROBLEM, is_solved, solve_alone};
+use crate::fixtures::{ALONE_PROBLEM, is_solved, solve_alone};
 use atto::Steps;
 use problem::{Problem, read_problem};
 use problem_model::{Event, Node};
 use row_pool::{Cell, Pair, Reach};
+use shared_fixtures::{APART_PROBLEM, TWO_LOGS_PROBLEM};
 use solver::Solver;
 use std::alloc::{AllocError, Global};
 use std::marker::Brand;
@@ -49,7 +50,7 @@ const CASES: [Case; 5] = [
         },
     },
     Case {
-        problem: UNLINKED_PROBLEM,
+        problem: APART_PROBLEM,
         first: 0,
         second: 1,
         events: NEVER,

@@ -1,25 +1,22 @@
 // Certificates of intervals, each as a whole text.
 ghost use Rattle.std.specs.Prelude.{◌≡◌, ◌<◌, ◌≤◌, [], length};
-ghost use Rattle.attain.specs.Ends.{AreRowsOf};
+ghost use Rattle.attain.specs.Ends.{AreRowsAt};
 ghost use Rattle.row_pool.specs.Pool.{free_rows};
 ghost use Rattle.solver.specs.Solution.{IsSolution};
 
-use crate::fixtures::{ALONE_PROBLEM, TWO_LOGS_PROBLEM, UNLINKED_PROBLEM, is_solved, solve_alone};
+use crate::fixtures::{ALONE_PROBLEM, is_solved, solve_alone};
 use attain::write_ends;
 use atto::Steps;
 use ports::MemSink;
 use problem::{Problem, read_problem};
 use queries::executions;
 use row_pool::Cell;
+use shared_fixtures::{APART_PROBLEM, ONE_WAY_PROBLEM, TWO_LOGS_PROBLEM};
 use solver::Solver;
 use std::alloc::Global;
 use std::marker::Brand;
 use std::sync::ledger::{Blank, Ledger};
 use std::test::*;
-
-// One message, with a least delay alone.
-const LEAST_ONE: &str =
-    "problem 1\nclock c 0 0 0 0\nclock d 0 0 0 0\nevent p c 5\nevent q d 3\nmessage p q 1 none\nend\n";
 
 // Clocks that drift. The event `c1` comes behind others without a limit, `d1` before others without one.
 const DRIFT: &str =
@@ -37,7 +34,7 @@ struct Case {
 
 const CASES: [Case; 6] = [
     Case {
-        problem: LEAST_ONE,
+        problem: ONE_WAY_PROBLEM,
         first: 0,
         second: 1,
         printed: "certificate 1\nends p q\nupper +inf\ninside c\nevent p 0.000000000\nevent q 1.000000000\n\
@@ -56,7 +53,7 @@ const CASES: [Case; 6] = [
         reading b 300 60.000000000\nend\n",
     },
     Case {
-        problem: UNLINKED_PROBLEM,
+        problem: APART_PROBLEM,
         first: 0,
         second: 1,
         printed: "certificate 1\nends a#1 b#1\nupper +inf\ninside a\nevent a#1 0.000000000\nevent b#1 0.000000000\n\
@@ -103,7 +100,7 @@ const CASES: [Case; 6] = [
 fn write_by(p: &Problem, s: &Solver, from: &[Cell], to: &[Cell], case: &Case, out: &mut MemSink)
     requires solution { IsSolution p.now s.now }
     requires solved { s.now.contradiction ≡ [] }
-    requires rows { AreRowsOf s.now.graph case.now.first from.now to.now }
+    requires rows { AreRowsAt s.now.graph case.now.first from.now to.now }
     requires first { case.now.first < length p.now.events }
     requires second { case.now.second < length p.now.events }
 {

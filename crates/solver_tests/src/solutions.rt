@@ -1,9 +1,10 @@
 ghost use Rattle.std.specs.Prelude.{◌≡◌, []};
 ghost use Rattle.solver.specs.Current.{IsCurrent};
 
-use crate::fixtures::{CIRCLE_PROBLEM, LATE_LOGS_PROBLEM, is_solved, solve_alone};
+use crate::fixtures::{CIRCLE_PROBLEM, is_solved, solve_alone};
 use atto::{NsText, write_decimal};
 use problem::{Problem, read_problem};
+use shared_fixtures::LATE_LOGS_PROBLEM;
 use solver::Solver;
 use std::alloc::{AllocError, Global};
 use std::test::*;

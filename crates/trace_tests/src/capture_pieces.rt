@@ -1,6 +1,6 @@
 ghost use Rattle.std.specs.Prelude.{◌≡◌, ◌≤◌, ◌+◌, ◌^◌, length, IfOk};
 
-use pcap_stream::{Packet, PcapError, PcapStream};
+use captures::{CaptureError, CaptureStream, Packet};
 use std::alloc::Global;
 use std::test::*;
 
@@ -55,10 +55,10 @@ fn feed_both(
     first: &[u8],
     second: &[u8],
     packets: &mut Vec<Packet>,
-) -> Result<PcapStream, PcapError>
+) -> Result<CaptureStream, CaptureError>
     requires { length first.now + length second.now ≤ 2 ^ 30 }
 {
-    PcapStream::new(alloc)
+    CaptureStream::new(alloc)
         .feed(first, packets)?
         .feed(second, packets)
 }
@@ -87,12 +87,12 @@ fn are_both(packets: &[Packet]) -> bool {
 }
 
 // Whether the capture is read as it should be where it is cut here.
-fn is_read_when_cut(alloc: Global, cut: u32) -> Result<bool, PcapError>
+fn is_read_when_cut(alloc: Global, cut: u32) -> Result<bool, CaptureError>
     requires { cut ≤ 112 }
 {
     let (first, second) = CAPTURE.split_at(cut as usize);
     let mut packets = Vec::new(alloc);
-    let begun = PcapStream::new(alloc).feed(first, &mut packets)?;
+    let begun = CaptureStream::new(alloc).feed(first, &mut packets)?;
     if (packets.len(), begun.pending()) != wanted_at(cut) {
         return Ok(false);
     }
@@ -102,7 +102,7 @@ fn is_read_when_cut(alloc: Global, cut: u32) -> Result<bool, PcapError>
 }
 
 // Whether one packet with this stamp is read, and as many bytes.
-fn has_stamp(alloc: Global, heads: &[u8], captured: &[u8], stamp: u64) -> Result<bool, PcapError>
+fn has_stamp(alloc: Global, heads: &[u8], captured: &[u8], stamp: u64) -> Result<bool, CaptureError>
     requires { length heads.now + length captured.now ≤ 2 ^ 30 }
 {
     let mut packets = Vec::new(alloc);
@@ -111,10 +111,10 @@ fn has_stamp(alloc: Global, heads: &[u8], captured: &[u8], stamp: u64) -> Result
 }
 
 // Whether a capture refuses this piece so, and then takes the whole capture in its place.
-fn refuses(alloc: Global, piece: &[u8], fault: PcapError) -> bool
+fn refuses(alloc: Global, piece: &[u8], fault: CaptureError) -> bool
     requires { length piece.now ≤ 2 ^ 30 }
 {
-    let stream = PcapStream::new(alloc);
+    let stream = CaptureStream::new(alloc);
     let mut packets = Vec::new(alloc);
     match stream.feed(piece, &mut packets) {
         Ok(_) => false,
@@ -145,7 +145,7 @@ fn stamps(rt: HostRuntime) {
 }
 
 // The first bytes of the capture, and behind them the head of a record.
-fn with_head(alloc: Global, place: usize, head: &[u8; 16]) -> Result<Vec<u8>, PcapError>
+fn with_head(alloc: Global, place: usize, head: &[u8; 16]) -> Result<Vec<u8>, CaptureError>
     requires { place ≤ 112 }
     ensures { IfOk result (λ bytes. length bytes.items ≡ place + 16) }
 {
@@ -155,15 +155,15 @@ fn with_head(alloc: Global, place: usize, head: &[u8; 16]) -> Result<Vec<u8>, Pc
 }
 
 // Whether the record at this place is refused as soon as its head is there.
-fn refuses_head(alloc: Global, place: usize, head: &[u8; 16]) -> Result<bool, PcapError>
+fn refuses_head(alloc: Global, place: usize, head: &[u8; 16]) -> Result<bool, CaptureError>
     requires { place ≤ 112 }
 {
     let bytes = with_head(alloc, place, head)?;
-    Ok(refuses(alloc, &bytes, PcapError::Length(place as u32)))
+    Ok(refuses(alloc, &bytes, CaptureError::Length(place as u32)))
 }
 
 // Whether a record of 262,144 bytes is read.
-fn takes_longest(alloc: Global) -> Result<bool, PcapError> {
+fn takes_longest(alloc: Global) -> Result<bool, CaptureError> {
     let heads = with_head(alloc, 24, &LONGEST)?;
     let zeros = vec![in alloc; 0u8; 262_144]?;
     has_stamp(alloc, &heads, &zeros, 100)
@@ -183,6 +183,6 @@ fn longest_record(rt: HostRuntime) {
 #[test]
 fn headers(rt: HostRuntime) {
     let minor = [0x4d, 0x3c, 0xb2, 0xa1, 2, 0, 3, 0];
-    assert!(rt; refuses(rt.alloc(), b"\n\r", PcapError::Magic));
-    assert!(rt; refuses(rt.alloc(), &minor, PcapError::Version));
+    assert!(rt; refuses(rt.alloc(), b"\r\n", CaptureError::Magic));
+    assert!(rt; refuses(rt.alloc(), &minor, CaptureError::Version));
 }

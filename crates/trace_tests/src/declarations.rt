@@ -1,6 +1,6 @@
 ghost use Rattle.decl.specs.Declaration.{HasLawfulLabels, declaration_of};
 
-use decl::{Decl, DeclError, Section, TraceKind, read_decl};
+use decl::{Decl, DeclError, IpVersion, Section, TraceKind, read_decl};
 use std::alloc::Global;
 use std::test::*;
 
@@ -15,6 +15,7 @@ pub(crate) struct Wanted {
     pub(crate) labels: &'static [(&'static str, u32, u32, TraceKind)],
     pub(crate) links: &'static [(u32, u32, u64, Option<u64>)],
     pub(crate) payload_bytes: u8,
+    pub(crate) tcp_options: bool,
     pub(crate) source: Option<u32>,
 }
 
@@ -26,6 +27,7 @@ pub(crate) const NOTHING: Wanted = Wanted {
     labels: &[],
     links: &[],
     payload_bytes: 0,
+    tcp_options: false,
     source: None,
 };
 
@@ -58,7 +60,9 @@ fn are_owners(decl: &Decl, wanted: &Wanted) -> bool {
 fn are_addresses(decl: &Decl, wanted: &Wanted) -> bool {
     decl.addresses.list().len() == wanted.addresses.len()
         && decl.addresses.list().iter().zip(wanted.addresses).all(|(address, one)| {
-            address.address == one.0 && address.host == one.1 && decl.host_of(one.0) == Some(one.1)
+            address.address == u128::from(one.0)
+                && address.host == one.1
+                && decl.host_of(IpVersion::V4, address.address) == Some(one.1)
         })
 }
 
@@ -112,6 +116,7 @@ pub(crate) fn says(alloc: Global, text: &str, wanted: &Wanted) -> bool {
                 && finds_labels(&decl, wanted)
                 && are_links(&decl, wanted)
                 && decl.payload_bytes == wanted.payload_bytes
+                && decl.tcp_options == wanted.tcp_options
                 && decl.source == wanted.source
         }
         Err(_) => false,
@@ -137,7 +142,8 @@ pub(crate) fn is_refused(
     }
 }
 
-const WHOLE: &str = "payload_bytes = 16\nsource = \"b\"\n\n[hosts.c]\naddresses = []\n\n[hosts.b]\n\
+const WHOLE: &str =
+    "payload_bytes = 16\nsource = \"b\"\ntcp_options = true\n\n[hosts.c]\naddresses = []\n\n[hosts.b]\n\
     addresses = [\"10.0.0.2\", \"0.0.0.0\"]\nlate = 7\n\n[hosts.a-1]\nshort = 999999999\nlong = 1000000000\n\
     early = 4611686018427387903\naddresses = [\"255.255.255.255\"]\n\n[labels.x]\nhost = \"c\"\nkind = \"log\"\n\n\
     [labels.B]\nhost = \"b\"\nkind = \"capture\"\n\n[[links]]\nfrom = \"b\"\nto = \"a-1\"\nleast = 5\nmost = 9\n\n\
@@ -166,11 +172,12 @@ const WHOLE_SAYS: Wanted = Wanted {
         (2, 2, 4_611_686_018_427_387_903, Some(0)),
     ],
     payload_bytes: 16,
+    tcp_options: true,
     source: Some(1),
 };
 
 const SHORT: &str =
-    "\u{feff}payload_bytes = 0x40\r\nhosts = { Z = {}, a = { addresses = ['1.2.3.4'] } } # two\r\nlinks = []\r\n\
+    "\u{feff}payload_bytes = 0x40\r\ntcp_options = false\r\nhosts = { Z = {}, a = { addresses = ['1.2.3.4'] } } # two\r\nlinks = []\r\n\
     labels.l = { kind = 'log', host = 'Z' }\r\n";
 
 const SHORT_SAYS: Wanted = Wanted {
@@ -181,6 +188,7 @@ const SHORT_SAYS: Wanted = Wanted {
     labels: &[("l", 0, 0, TraceKind::Log)],
     links: &[],
     payload_bytes: 64,
+    tcp_options: false,
     source: None,
 };
 
@@ -198,7 +206,7 @@ fn lawful(rt: HostRuntime) {
 }
 
 // Declarations with their first faults.
-const FAULTS: [(&str, u32, Section, u32); 75] = [
+const FAULTS: [(&str, u32, Section, u32); 77] = [
     ("hosts = ", 1, Section::Top, 0),
     ("x = 1\nx = 2", 1, Section::Top, 0),
     ("\u{feff}\u{feff}", 1, Section::Top, 0),
@@ -209,6 +217,13 @@ const FAULTS: [(&str, u32, Section, u32); 75] = [
     ("labels = 1\n[hosts]\na = 1", 3, Section::Top, 0),
     ("links = {}", 3, Section::Top, 0),
     ("payload_bytes = 1.0", 3, Section::Top, 0),
+    ("tcp_options = 1", 3, Section::Top, 0),
+    (
+        "tcp_options = 'true'\npayload_bytes = 65",
+        3,
+        Section::Top,
+        0,
+    ),
     ("payload_bytes = '1'", 3, Section::Top, 0),
     ("source = 1\npayload_bytes = 65", 3, Section::Top, 0),
     ("payload_bytes = 65\n[hosts]\na = 1", 5, Section::Top, 0),
@@ -448,7 +463,7 @@ fn bytes_alone(rt: HostRuntime) -> Result<(), Fail> {
 #[test]
 fn undeclared(rt: HostRuntime) -> Result<(), Fail> {
     let decl = read_decl(rt.alloc(), WHOLE.as_bytes()).map_err(|_| "refused")?;
-    assert!(rt; decl.host_of(0x0a00_0003).is_none());
+    assert!(rt; decl.host_of(IpVersion::V4, 0x0a00_0003).is_none());
     let (least, most) = decl.link_of(0, 0);
     assert!(rt; least.get() == 0 && most.is_none());
     Ok(())
@@ -484,10 +499,10 @@ fn says_wide(alloc: Global) -> bool {
                 && decl.addresses6.list().iter().zip(&WIDE_WANTED).all(|(address, one)| {
                     address.address == one.0
                         && address.host == one.1
-                        && decl.host_of6(one.0) == Some(one.1)
+                        && decl.host_of(IpVersion::V6, one.0) == Some(one.1)
                 })
-                && decl.host_of6(1).is_none()
-                && decl.host_of(0x0a00_0001) == Some(1)
+                && decl.host_of(IpVersion::V6, 1).is_none()
+                && decl.host_of(IpVersion::V4, 0x0a00_0001) == Some(1)
         }
         Err(_) => false,
     }

@@ -32,6 +32,7 @@ const STEPPED_SAYS: Wanted = Wanted {
     ],
     links: &[],
     payload_bytes: 0,
+    tcp_options: false,
     source: Some(1),
 };
 

@@ -2,10 +2,10 @@ ghost use Rattle.std.specs.Prelude.{◌≤◌, ◌^◌, length, IfSome};
 
 use arrayvec::ArrayVec;
 use atto::Nano;
+use captures::Packet;
 use decl::{Decl, read_decl};
 use event_log::read_rows;
-use ip_headers::PacketKey;
-use pcap_stream::Packet;
+use headers::{Network, PacketKey, Transport, UserDatagram};
 use std::alloc::Global;
 use std::test::*;
 use traces::{Event, Key, Mark, NoKey, Side, packet_events, row_events};
@@ -111,21 +111,40 @@ fn event_of(alloc: Global, declaration: &str, host: u32, link: u16, frame: &[u8]
     events.pop()
 }
 
+// The key of a datagram of UDP without a payload, between these ports.
+fn datagram_key(network: Network, source_port: u16, target_port: u16) -> PacketKey {
+    PacketKey {
+        network,
+        transport: Transport::Udp(UserDatagram {
+            source_port,
+            target_port,
+            length: 8,
+            payload: ArrayVec::new(),
+        }),
+    }
+}
+
 // The key of the packet over, or that of the packet back.
 fn key_of(over: bool) -> PacketKey {
-    PacketKey {
+    let network = Network::V4 {
         source: if over { FIRST } else { SECOND },
         target: if over { SECOND } else { FIRST },
-        protocol: 17,
         id: if over { 7 } else { 8 },
-        source_port: if over { 5000 } else { 6000 },
-        target_port: if over { 6000 } else { 5000 },
-        sequence: 0,
-        acknowledged: 0,
-        flags: 0,
-        length: 8,
-        payload: ArrayVec::new(),
+    };
+    if over {
+        datagram_key(network, 5000, 6000)
+    } else {
+        datagram_key(network, 6000, 5000)
     }
+}
+
+// That of the packet of IPv6.
+fn wide_key() -> PacketKey {
+    let network = Network::V6 {
+        source: WIDE_FIRST,
+        target: WIDE_SECOND,
+    };
+    datagram_key(network, 5000, 6000)
 }
 
 fn has_mark(mark: &Mark, wanted: Option<Side>, over: bool) -> bool {
@@ -157,15 +176,9 @@ fn has_side(alloc: Global, case: &(&str, u32, &[u8], Option<Side>)) -> bool {
 fn has_wide_mark(mark: &Mark, wanted: Side) -> bool {
     match mark {
         Mark::Keyed {
-            key: Key::Wide(key),
+            key: Key::Packet(key),
             side,
-        } => {
-            *side == wanted
-                && key.source == WIDE_FIRST
-                && key.target == WIDE_SECOND
-                && key.source_port == 5000
-                && key.length == 8
-        }
+        } => *side == wanted && *key == wide_key(),
         _ => false,
     }
 }

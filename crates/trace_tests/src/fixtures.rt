@@ -5,7 +5,8 @@ ghost use Rattle.decl.specs.Declaration.{IsDeclaration, declaration_of};
 use arrayvec::ArrayVec;
 use decl::{Decl, read_decl};
 use event_log::{LogError, read_rows};
-use ip_headers::PacketKey;
+use headers::{Network, PacketKey, Transport, UserDatagram};
+use problem_model::MOST_EVENTS;
 use reference_traces::{messages_in, missing};
 use std::alloc::{AllocError, Global};
 use traces::{Accepted, Couple, Event, EventId, Side, Stream, event_count, row_events};
@@ -30,17 +31,17 @@ pub(crate) fn packet_key(id: u16, payload: &[u8]) -> Option<PacketKey> {
     let mut front = ArrayVec::new();
     front.try_extend_from_slice(payload).ok()?;
     Some(PacketKey {
-        source: 0x0a00_0001,
-        target: 0x0a00_0002,
-        protocol: 17,
-        id,
-        source_port: 5000,
-        target_port: 6000,
-        sequence: 0,
-        acknowledged: 0,
-        flags: 0,
-        length: 100,
-        payload: front,
+        network: Network::V4 {
+            source: 0x0a00_0001,
+            target: 0x0a00_0002,
+            id,
+        },
+        transport: Transport::Udp(UserDatagram {
+            source_port: 5000,
+            target_port: 6000,
+            length: 100,
+            payload: front,
+        }),
     })
 }
 
@@ -64,7 +65,7 @@ pub(crate) fn log_of(alloc: Global, text: &str) -> Result<Accepted, LogError> {
 
 // The messages of all labels, by the filters.
 pub(crate) fn by_filters(alloc: Global, labels: &[Accepted]) -> Result<Vec<Couple>, AllocError> {
-    if labels.len() > 65536 || event_count(labels) > 1 << 21 {
+    if labels.len() > 65536 || event_count(labels) > MOST_EVENTS as u64 {
         return Err(AllocError);
     }
     messages_in(alloc, labels)

@@ -2,7 +2,7 @@
 // the plain filters say.
 ghost use Rattle.std.specs.Prelude.{OnOk};
 ghost use Rattle.traces.specs.Held.{seen_in};
-ghost use Rattle.reference_traces.specs.Added.{AreAdded};
+ghost use Rattle.reference_traces.specs.Added.{AreAllAdded};
 
 use crate::fixtures::{RECEIVE, SEND, are_messages, by_filters, lost, packet_key, three_logs};
 use atto::Nano;
@@ -409,8 +409,8 @@ fn step_holds(
     sum: &mut Vec<Couple>,
     step: &Step,
 ) -> Result<bool, AllocError>
-    requires { AreAdded kept.old.roster kept.old.matcher (seen_in kept.old.labels.items) }
-    ensures { OnOk result (AreAdded kept.new.roster kept.new.matcher (seen_in kept.new.labels.items)) }
+    requires { AreAllAdded kept.old.roster kept.old.matcher (seen_in kept.old.labels.items) }
+    ensures { OnOk result (AreAllAdded kept.new.roster kept.new.matcher (seen_in kept.new.labels.items)) }
 {
     let before = by_filters(alloc, &kept.labels)?;
     let events = events_with(alloc, step.ends)?;

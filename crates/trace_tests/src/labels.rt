@@ -1,6 +1,7 @@
 use crate::fixtures::{accepted, are_messages, by_filters, log_of, lost, packet_key};
 use atto::Nano;
 use event_log::{LogError, WordKey};
+use problem_model::MOST_EVENTS;
 use reference_traces::messages;
 use std::alloc::{AllocError, Global};
 use std::test::*;
@@ -128,7 +129,7 @@ fn read_logs(alloc: Global, texts: &[&str; 3]) -> Result<Vec<Accepted>, LogError
 
 // The messages of all labels, by way of their events.
 fn pairs(alloc: Global, labels: &[Accepted]) -> Result<Vec<Couple>, AllocError> {
-    if labels.len() > 65536 || event_count(labels) > 1 << 21 {
+    if labels.len() > 65536 || event_count(labels) > MOST_EVENTS as u64 {
         return Err(AllocError);
     }
     let events = events(alloc, labels)?;

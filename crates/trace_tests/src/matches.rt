@@ -1,4 +1,5 @@
-ghost use Rattle.std.specs.Prelude.{◌≡◌, ◌≤◌, ◌+◌, ◌^◌, length, IfOk, OnOk};
+ghost use Rattle.std.specs.Prelude.{◌≡◌, ◌≤◌, ◌+◌, length, IfOk, OnOk, IfSome};
+ghost use Rattle.problem_model.specs.Limits.{most_items};
 ghost use Rattle.trace_tests.specs.Numbered.{AreNumberedFrom};
 ghost use Rattle.msg_match.specs.Held.{seen_items};
 
@@ -120,18 +121,24 @@ fn key(text: &str) -> Option<Key> {
     }
 }
 
+// The event of this number, with this side and the key of a text.
+fn item(event: u32, side: Side, text: &str) -> Option<Item>
+    ensures { IfSome result (λ item. item.event ≡ event) }
+{
+    let key = key(text)?;
+    Some(Item { event, side, key })
+}
+
 // The events of a step, numbered from this number on.
 fn items(alloc: Global, first: u32, events: &[(Side, &str)]) -> Result<Vec<Item>, AllocError>
-    requires { first + length events.now ≤ 2 ^ 22 }
+    requires { first + length events.now ≤ most_items }
     ensures count { IfOk result (λ items. length items.items ≡ length events.now) }
     ensures numbered { IfOk result (λ items. AreNumberedFrom first (seen_items items.items)) }
 {
     let mut items = Vec::new(alloc);
     for (place, (side, text)) in events.iter().enumerate() {
         let event = first + place as u32;
-        let key = key(text).ok_or(AllocError)?;
-        let side = *side;
-        items.push(Item { event, side, key })?;
+        items.push(item(event, *side, text).ok_or(AllocError)?)?;
     }
     Ok(items)
 }
@@ -143,7 +150,7 @@ fn add_step(
     first: u32,
     events: &[(Side, &str)],
 ) -> Result<Change, AllocError>
-    requires few { first + length events.now ≤ 2 ^ 22 }
+    requires few { first + length events.now ≤ most_items }
     requires count { length matcher.old ≡ first }
     requires numbered { AreNumberedFrom 0 matcher.old }
     ensures count { OnOk result (length matcher.new ≡ first + length events.now) }

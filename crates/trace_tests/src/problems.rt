@@ -5,7 +5,7 @@ ghost use Rattle.decl.specs.Declaration.{IsDeclaration, declaration_of};
 use crate::fixtures::log_of;
 use decl::{Decl, read_decl};
 use problem::{Problem, read_problem};
-use problem_model::Name;
+use problem_model::{MOST_EVENTS, Name};
 use reference_traces::{messages_in, problem_of};
 use std::alloc::Global;
 use std::test::*;
@@ -110,7 +110,10 @@ fn logs_of(alloc: Global, texts: &[&str; 3]) -> Option<Vec<Accepted>> {
 fn made(alloc: Global, decl: &Decl, logs: &[Accepted]) -> Option<Problem>
     requires { IsDeclaration (declaration_of decl.now) }
 {
-    if logs.len() > 65536 || logs.len() != decl.labels.len() || event_count(logs) > 1 << 21 {
+    if logs.len() > 65536
+        || logs.len() != decl.labels.len()
+        || event_count(logs) > MOST_EVENTS as u64
+    {
         return None;
     }
     let messages = messages_in(alloc, logs).ok()?;

@@ -1,6 +1,7 @@
 // Rosters to which pieces of logs come, of labels p, q and r: what they list, and the events that they find by name.
 use crate::fixtures::{log_of, three_logs};
 use problem::Listing;
+use problem_model::MOST_EVENTS;
 use roster::Roster;
 use std::alloc::Global;
 use std::test::*;
@@ -66,9 +67,8 @@ const UNKNOWN: [&str; 8] = [
 
 fn push_log(alloc: Global, roster: &mut Roster, label: u32, text: &str) -> Option<u32> {
     let log = log_of(alloc, text).ok()?;
-    let most = 1 << 21;
     if label as usize >= roster.decl().labels.len()
-        || log.events.len() > most - roster.len() as usize
+        || log.events.len() > MOST_EVENTS - roster.len() as usize
     {
         return None;
     }

@@ -1,7 +1,7 @@
 use Rattle.std.proofs.Common.{ℕ, sym, ap, subst}
 use Rattle.problem.specs.Listing.{listing_of}
 use Rattle.repair.specs.Slots.{KeptRows}
-use Rattle.queries.specs.Asking.{IsReadingAt}
+use Rattle.queries.specs.Asking.{IsListedReading}
 use Rattle.queries.proofs.Solutions.{reading_below, goes_on}
 use Rattle.report_tests.proofs.answers.ask_time.Goals as goal
 
@@ -21,5 +21,5 @@ write_time-requires-clause-source g c =
     let p = c.args.p.now in
     let reading = c.in_ok-reading.reading in
     let takes = c.keep_source.ensures.takes in
-    let at = subst (λ (node : ℕ). IsReadingAt (listing_of p) c.args.case.now.clock reading.0 node) (sym takes.1) c.in_ok-reading.ensures in
+    let at = subst (λ (node : ℕ). IsListedReading (listing_of p) c.args.case.now.clock reading.0 node) (sym takes.1) c.in_ok-reading.ensures in
     (c.args.case.now.clock, (takes.0, ap (λ (kept : KeptRows). kept.source) takes.2, at))

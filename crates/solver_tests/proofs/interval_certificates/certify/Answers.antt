@@ -1,7 +1,7 @@
 use Rattle.std.proofs.Common.{length, ◌∙◌, subst, sym}
 use Rattle.problem.specs.Listing.{listing_of}
 use Rattle.problem_graph.specs.ListedStanding.{StandsForListed}
-use Rattle.problem_graph.proofs.OwnStanding.{own_event}
+use Rattle.problem_graph.proofs.HeldStanding.{own_event}
 use Rattle.attain.proofs.Events.{event_within}
 use Rattle.solver_tests.proofs.interval_certificates.certify.Goals as goal
 

@@ -4,8 +4,8 @@ use Rattle.earliest.specs.Values.{Values}
 use Rattle.sync_graph.specs.Graph.{GraphLists}
 use Rattle.sync_graph.specs.InForce.{IsEarliestOf}
 use Rattle.problem_graph.specs.ListedStanding.{StandsForListed}
-use Rattle.problem_graph.proofs.OwnStanding.{own_event}
-use Rattle.attain.specs.Ends.{AreRowsOf}
+use Rattle.problem_graph.proofs.HeldStanding.{own_event}
+use Rattle.attain.specs.Ends.{AreRowsAt}
 use Rattle.solver.specs.Solver.{SolverLists}
 use Rattle.solver.specs.Current.{IsCurrent}
 use Rattle.solver_tests.proofs.interval_certificates.write_by.Goals as goal
@@ -30,7 +30,7 @@ write_ends-failed-requires-clause-earliest c =
     (earliest_so s c.requires.solution.current (c.executions.ensures.solved s l c.args.p.now c.requires.solution c.requires.solved)))
 
 pub write_ends-failed-requires-clause-rows : goal.write_ends-failed-requires-clause-rows
-write_ends-failed-requires-clause-rows c = subst (λ (h : GraphLists). AreRowsOf h c.args.case.now.first c.args.from.now c.args.to.now) (sym c.graph.ensures) c.requires.rows
+write_ends-failed-requires-clause-rows c = subst (λ (h : GraphLists). AreRowsAt h c.args.case.now.first c.args.from.now c.args.to.now) (sym c.graph.ensures) c.requires.rows
 
 pub write_ends-failed-requires-clause-stands : goal.write_ends-failed-requires-clause-stands
 write_ends-failed-requires-clause-stands c =

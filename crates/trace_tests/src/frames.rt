@@ -1,4 +1,4 @@
-use ip_headers::{Decoded, PacketKey, Reason, decode};
+use headers::{Network, Reason, Segment, Transport, UserDatagram, decode};
 use std::test::*;
 
 // Frames on their links that have no key, where no payload is asked for.
@@ -30,9 +30,9 @@ const REFUSED: [(&str, u16, &[u8], Reason); 18] = [
     ),
     ("no byte", 101, b"", Reason::Short),
     (
-        "version 6",
+        "version 5",
         101,
-        b"\x65\x00\x00\x1c\x00\x07\x00\x00\x40\x11\x00\x00\x0a\x00\x00\x01\x0a\x00\x00\x02\x13\x88\x17\x70\x00\x08\x00\x00",
+        b"\x55\x00\x00\x1c\x00\x07\x00\x00\x40\x11\x00\x00\x0a\x00\x00\x01\x0a\x00\x00\x02\x13\x88\x17\x70\x00\x08\x00\x00",
         Reason::Other,
     ),
     (
@@ -91,7 +91,7 @@ const REFUSED: [(&str, u16, &[u8], Reason); 18] = [
     ),
     (
         "another link",
-        113,
+        0,
         b"\x45\x00\x00\x1c\x00\x07\x00\x00\x40\x11\x00\x00\x0a\x00\x00\x01\x0a\x00\x00\x02\x13\x88\x17\x70\x00\x08\x00\x00",
         Reason::Link,
     ),
@@ -166,9 +166,13 @@ fn is_refused(link: u16, frame: &[u8], payload_bytes: u8, wanted: Reason) -> boo
     if payload_bytes > 64 {
         return false;
     }
-    match decode(link, frame, payload_bytes) {
-        Decoded::Key(_) => false,
-        Decoded::NoKey(reason) => reason == wanted,
+    let fields = headers::Wanted {
+        payload_bytes,
+        tcp_options: false,
+    };
+    match decode(link, frame, fields) {
+        Ok(_) => false,
+        Err(reason) => reason == wanted,
     }
 }
 
@@ -504,30 +508,53 @@ const KEYED: [(&str, u16, &[u8], u8, Wanted); 16] = [
     ),
 ];
 
-fn has_headers(key: &PacketKey, wanted: &Wanted) -> bool {
-    key.source == wanted.source
-        && key.target == wanted.target
-        && key.protocol == wanted.protocol
-        && key.id == wanted.id
-        && key.source_port == wanted.source_port
-        && key.target_port == wanted.target_port
+fn has_network(network: Network, wanted: &Wanted) -> bool {
+    match network {
+        Network::V4 { source, target, id } => source == wanted.source
+            && target == wanted.target
+            && id == wanted.id,
+        Network::V6 { .. } => false,
+    }
 }
 
-fn has_rest(key: &PacketKey, wanted: &Wanted) -> bool {
-    key.sequence == wanted.sequence
-        && key.acknowledged == wanted.acknowledged
-        && key.flags == wanted.flags
-        && key.length == wanted.length
-        && key.payload.as_slice() == wanted.payload
+fn is_segment(segment: &Segment, wanted: &Wanted) -> bool {
+    wanted.protocol == 6
+        && segment.source_port == wanted.source_port
+        && segment.target_port == wanted.target_port
+        && segment.sequence == wanted.sequence
+        && segment.acknowledged == wanted.acknowledged
+        && segment.flags == wanted.flags
+        && segment.length == wanted.length
+        && segment.payload.as_slice() == wanted.payload
+        && segment.options.is_empty()
+}
+
+fn is_datagram(datagram: &UserDatagram, wanted: &Wanted) -> bool {
+    wanted.protocol == 17
+        && datagram.source_port == wanted.source_port
+        && datagram.target_port == wanted.target_port
+        && datagram.length == wanted.length
+        && datagram.payload.as_slice() == wanted.payload
+}
+
+fn has_transport(transport: &Transport, wanted: &Wanted) -> bool {
+    match transport {
+        Transport::Tcp(segment) => is_segment(segment, wanted),
+        Transport::Udp(datagram) => is_datagram(datagram, wanted),
+    }
 }
 
 fn is_keyed(link: u16, frame: &[u8], payload_bytes: u8, wanted: &Wanted) -> bool {
     if payload_bytes > 64 {
         return false;
     }
-    match decode(link, frame, payload_bytes) {
-        Decoded::Key(key) => has_headers(&key, wanted) && has_rest(&key, wanted),
-        Decoded::NoKey(_) => false,
+    let fields = headers::Wanted {
+        payload_bytes,
+        tcp_options: false,
+    };
+    match decode(link, frame, fields) {
+        Ok(key) => has_network(key.network, wanted) && has_transport(&key.transport, wanted),
+        Err(_) => false,
     }
 }
 
