@@ -80,7 +80,9 @@ class Declaring:
             told = f"with {count} of them {repeated} packets look like another one of their host" + (f", and {short} were captured too short" if short else "")
             lines += [f"# So many bytes of the payload are part of what a packet is known by: {told}.",
                       "# Others of 0, 8, 16, 32 and 64 do no better here. See `ambiguous` and `short` in the reply to `report`.",
-                      f"payload_bytes = {count}"]  # fmt: skip
+                      f"payload_bytes = {count}",
+                      "# Timestamps and selective acknowledgments of TCP are, too: a segment that is sent again has others.",
+                      "tcp_options = true"]  # fmt: skip
         if self.source:
             what = "the measure, right or wrong" if self.reference else "a true one"
             lines += [f"# By this clock `time` tells when an event was. It was named on the command line as {what}.", f'source = "{self.source}"']

@@ -6,12 +6,14 @@ from ipaddress import ip_address
 
 from captures import Packet
 
-# What a packet is known by at both ends: addresses, protocol, identification, ports, and what TCP or UDP says.
+# What a packet is known by at both ends: addresses, protocol, identification, ports, what TCP or UDP says, and options of TCP.
 Key = tuple[bytes | int | None, ...]
 
 ETHERNET, RAW, COOKED, COOKED2 = 1, 101, 113, 276
 IPV4, IPV6, ARP, TAGS = 0x0800, 0x86DD, 0x0806, (0x8100, 0x88A8)
 TCP, UDP = 6, 17
+# Of a list of options of TCP its end, a byte that fills, and those that tell a segment from one that is sent again.
+END, NO_OPERATION, TELLING = 0, 1, (5, 8)
 # How a cooked header says that a packet went out, and that it came for this host.
 OUT, FOR_US = 4, 0
 FLAG_NAMES = ((2, "SYN"), (16, "ACK"), (1, "FIN"), (4, "RST"), (8, "PSH"))
@@ -76,14 +78,28 @@ def transport(found: Headers, data: bytes, length: int, ident: int | None) -> He
         one, other, size = struct.unpack_from(">HHH", data)
         found.ports = (one, other)
         found.payload, found.payload_length = data[8:size], max(size - 8, 0)
-        found.key = (found.source, found.target, UDP, ident, one, other, 0, 0, 0, size)
+        found.key = (found.source, found.target, UDP, ident, one, other, 0, 0, 0, size, b"")
     elif found.protocol == TCP and len(data) >= 20:
         one, other, sequence, acknowledged = struct.unpack_from(">HHII", data)
         found.ports = (one, other)
         head, found.flags = 4 * (data[12] >> 4), data[13]
         found.payload, found.payload_length = data[head:], max(length - head, 0)
-        found.key = (found.source, found.target, TCP, ident, one, other, sequence, acknowledged, found.flags, length - head)
+        told = telling(data[20:head])
+        if told is not None:
+            found.key = (found.source, found.target, TCP, ident, one, other, sequence, acknowledged, found.flags, length - head, told)
     return found
+
+
+def telling(options: bytes) -> bytes | None:
+    """Returns those of a list of options that tell segments apart, timestamps and selective acknowledgments; None where one is cut."""
+    told, at = b"", 0
+    while at < len(options) and options[at] != END:
+        size = 1 if options[at] == NO_OPERATION else options[at + 1] if at + 1 < len(options) else 0
+        if size < (1 if options[at] == NO_OPERATION else 2) or at + size > len(options):
+            return None
+        told += options[at : at + size] if options[at] in TELLING else b""
+        at += size
+    return told
 
 
 def address_text(address: bytes) -> str:

@@ -90,6 +90,20 @@ class Headers(unittest.TestCase):
     def test_tags_are_passed_over(self) -> None:
         self.assertIsNotNone(headers.decode(1, making.framed(1, M1, tags=(0x88A8, 0x8100)))[0].key)
 
+    def test_options_of_a_segment_that_tell_it_from_one_that_is_sent_again(self) -> None:
+        stamps, block = bytes.fromhex("080a0d6d4d09c9040011"), bytes.fromhex("050a5a0102035a01078b")
+        cases = {
+            b"": b"",
+            b"\1\1" + stamps: stamps,
+            b"\1\1" + block + b"\1\1" + stamps: block + stamps,
+            bytes.fromhex("020405b40402") + stamps + bytes.fromhex("01030307"): stamps,
+            b"\0" + stamps: b"",
+        }
+        for options, told in cases.items():
+            self.assertEqual(headers.telling(options), told, options.hex())
+        for options in (b"\1\x08", b"\x08\0", b"\x08\1", b"\2\4\5"):
+            self.assertIsNone(headers.telling(options), options.hex())
+
     def test_no_frame_makes_it_fail(self) -> None:
         for link in (0, 1, 101, 113, 276):
             for length in range(len(FRAME)):

@@ -153,6 +153,7 @@ class Text(unittest.TestCase):
         found, _, _ = self.declare("left=captures/left.pcap", "right=pcapng/right.pcapng")
         wanted = {
             "payload_bytes": 8,
+            "tcp_options": True,
             "hosts": {"left": {"short": 100_000, "long": 100_011, "early": 0, "late": 2, "addresses": ["10.9.0.1"]},
                       "right": {"short": 100_000, "long": 100_011, "early": 0, "late": 1_001, "addresses": ["10.9.0.2"]}},
             "labels": {it: {"host": it, "kind": "capture"} for it in ("left", "right")},
@@ -164,7 +165,7 @@ class Text(unittest.TestCase):
         _, _, text = self.declare("left=captures/left.pcap", "right=pcapng/right.pcapng")
         lines = text.splitlines()
         for at, line in enumerate(lines):
-            if line.split(" ")[0] in ("short", "early", "addresses", "payload_bytes"):
+            if line.split(" ")[0] in ("short", "early", "addresses", "payload_bytes", "tcp_options"):
                 self.assertTrue(lines[at - 1].startswith("#"), line)
 
     def test_logs_and_a_second_label_of_a_host(self) -> None:

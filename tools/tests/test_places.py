@@ -83,8 +83,8 @@ WRONG_LINES = {
         "solver/pushes.rt", "self.bring_in(arc, steps)?;", "self.bring_in(arc, &mut Steps::<L>::open(Blank::new(1)))?;",
         places.COUNTERS, "Solver::push_arc"),
     "a second counter by a blank of a call": (
-        "solver/pushes.rt", "Inserted::Kept => self.kept.after_insert(",
-        "Inserted::Kept => anew::<Brand>(&mut self.kept, Blank::new(1),",
+        "solver/pushes.rt", "let search = Search::new(",
+        "anew::<Brand>(&mut self.kept, Blank::new(1)); let search = Search::new(",
         places.COUNTERS, "Solver::bring_in"),
 }
 
