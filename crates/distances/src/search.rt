@@ -42,6 +42,7 @@ impl<'a> Search<'a> {
         requires earliest { IsEarliestOf graph.now earliest.now.values }
         ensures { result ≡ record { graph = graph.now; values = earliest.now.values; side = side } }
     {
+        // It tells what the lists of the graph hold.
         graph.exact();
         Search {
             graph,

@@ -12,3 +12,4 @@ pub mod Stopping
 pub mod Dropping
 pub mod Withdrawing
 pub mod Removing
+pub mod Lent

@@ -1,11 +1,12 @@
 -- A withdrawal whole: from the earliest execution before to that of the arcs in force.
 use Rattle.std.proofs.Common.{◌≡◌, ℕ, ◌+◌, ◌*◌, ◌^◌, ◌<◌, ◌≤◌, Bool, true, false, List, [], ◌∷◌, length, zero, suc, get_or, refl, ap, sym, subst, arith, inl, inr}
 use Rattle.std.specs.Prelude.{ℤ, pos, neg_ℤ, ◌≤ℤ◌, Option, Some, None, map, All, if◌then◌else◌}
+use Rattle.std.proofs.lemmas.Int.{ints}
 use Rattle.std.proofs.lemmas.Bool.{cases_lt}
 use Rattle.std.proofs.lemmas.List.{get_or_default, get_or_past}
 use Rattle.std.proofs.lemmas.List.Elements.{All-append, All-map, All-contains, Contains-get_or, Contains-append_left}
 use Rattle.problem_model.specs.Executions as bounds
-use Rattle.problem_model.specs.Executions.{at, Obeys, AreWithin}
+use Rattle.problem_model.specs.Executions.{at, Obeys, AreWithin, IsExecution}
 use Rattle.problem_model.specs.Numbers.{IsUpTo}
 use Rattle.problem_model.specs.Sums.{sum_to}
 use Rattle.problem_model.specs.Tables.{Lists}
@@ -14,12 +15,14 @@ use Rattle.problem_model.proofs.Heights.{earliest_height, height_low}
 use Rattle.problem_model.proofs.Sums.{sum-same}
 use Rattle.problem_model.proofs.Tables.{lists_listed}
 use Rattle.withdrawals.specs.Withdrawals.{IsExact, flagged_sum}
+use Rattle.withdrawals.specs.Falls.{AreMarks}
+use Rattle.withdrawals.proofs.Unmarked.{rest_least}
 use Rattle.withdrawals.proofs.Falling.{first_poised, first_falling}
 use Rattle.withdrawals.proofs.Marking.{are_marks, few_found}
 use Rattle.withdrawals.proofs.Sums.{flagged_below, flagged_both}
 use Rattle.sync_graph.specs.declared.arc.Arc.{Arc}
 use Rattle.sync_graph.specs.Graph.{GraphLists, IsGraph, IsSound, table_of, unnamed, arc_at, reaching, departing}
-use Rattle.earliest.specs.Values.{arcs_of, AreSmall}
+use Rattle.earliest.specs.Values.{arcs_of, AreSmall, IsEarliestOf}
 use Rattle.earliest.specs.Withdrawn.{waits_at, fall_at, falls_of, found_at, arcs_before, IsEarliestWith, IsAffectedBy, AreLow, IsFallMarking, IsPulledIn, IsFallingIn}
 use Rattle.earliest.proofs.Waiting.{in_force_below}
 use Rattle.earliest.proofs.Bounds.{no_arc}
@@ -100,6 +103,23 @@ module _ (g : GraphLists) (is : IsGraph g) (removed : List Arc) (olds : List ℤ
       found_few m =
           let few : count ≤ length g.nodes = few_found (length g.nodes) (table_of g) (arcs_before g removed) (map unnamed removed) (at olds) (waits_at front) (found_at found) count count m.marking in
           omega (arith, m.found_each)
+
+      -- a node that is not marked keeps its value
+      pub rests_same : IsFallMarking g (arcs_before g removed) (map unnamed removed) olds front found count count
+          → All (λ a. IsExact (at olds) a → waits_at front a.from ≡ true) (map unnamed removed)
+          → (news : List ℤ) → IsEarliestOf g news → (k : ℕ) → waits_at front k ≡ false → at news k ≡ at olds k
+      rests_same m gone news n k w =
+          let marks : AreMarks (table_of g) (map unnamed removed) (at olds) (waits_at front) =
+          are_marks (length g.nodes) (table_of g) (arcs_before g removed) (map unnamed removed) (at olds) (waits_at front) (found_at found) count m.marking gone in
+          let low : at olds k ≤ℤ at news k = rest_least (length g.nodes) (table_of g) (arcs_of g) (map unnamed removed) olds (waits_at front) now within e marks (at news)
+          (λ j f. All-contains (Obeys (at news)) (arcs_of g) ((table_of g).arc j) n.execution.obeys (now.all j f)) n.non_negative k w in
+          let still : IsExecution (length g.nodes) (arcs_of g) olds = record {
+            one_each = e.execution.one_each;
+            obeys = λ i d l. All-contains (Obeys (at olds)) (arcs_before g removed) (get_or (arcs_of g) i d) e.execution.obeys
+                (Contains-append_left (arcs_of g) (map unnamed removed) (get_or (arcs_of g) i d) (Contains-get_or (arcs_of g) i d l));
+          } in
+          let high : at news k ≤ℤ at olds k = n.least olds still e.non_negative k in
+          omega (arith, ints, low, high)
 
       -- the steps of all three loops
       pub all_cost : (front' : List (Option ℤ)) (s0 s1 s2 s3 : ℕ) (affected : ℕ → Bool)

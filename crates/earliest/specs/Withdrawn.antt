@@ -1,12 +1,12 @@
 -- A withdrawal that is under way.
-use Rattle.std.specs.Prelude.{◌≡◌, ℕ, ◌+◌, ◌^◌, ◌<◌, ◌≤◌, ◌⊎◌, Bool, true, false, ℤ, pos, ◌≤ℤ◌, ◌<ℤ◌, List, ◌++◌, length, map, slice_index_or, slice_set, Option, Some, None, Contains}
+use Rattle.std.specs.Prelude.{◌≡◌, ℕ, ◌+◌, ◌*◌, ◌^◌, ◌<◌, ◌≤◌, ◌⊎◌, Bool, true, false, ℤ, pos, ◌≤ℤ◌, ◌<ℤ◌, List, ◌++◌, length, map, slice_index_or, slice_set, Option, Some, None, Contains}
 use Rattle.problem_model.specs.Executions as bounds
 use Rattle.problem_model.specs.Executions.{at}
 use Rattle.problem_model.specs.Earliest.{IsEarliest, IsNonNegative}
 use Rattle.problem_model.specs.Limits.{path_bits}
 use Rattle.sync_graph.specs.declared.arc.Arc.{Arc}
-use Rattle.sync_graph.specs.Graph.{GraphLists, table_of, unnamed}
-use Rattle.withdrawals.specs.Withdrawals.{IsExact, IsAffected}
+use Rattle.sync_graph.specs.Graph.{GraphLists, table_of, unnamed, reaching, departing}
+use Rattle.withdrawals.specs.Withdrawals.{IsExact, IsAffected, flagged_sum, flagged_count, LeavesFrom}
 use Rattle.withdrawals.specs.Falls.{Falls, IsMarking, IsPoised, IsObeyedAfter, IsFalling}
 use Rattle.earliest.specs.Values.{arcs_of}
 
@@ -21,6 +21,24 @@ IsEarliestWith g removed values = IsEarliest (length g.nodes) (arcs_before g rem
 -- a chain of arcs that the values meet exactly starts at the node, and its last arc is one of those removed
 abbrev pub IsAffectedBy : GraphLists → List Arc → List ℤ → ℕ → Type 0
 IsAffectedBy g removed values node = IsAffected (arcs_before g removed) (map unnamed removed) (at values) node
+
+-- the flags have each affected node
+abbrev pub FlagsAffected : GraphLists → List Arc → List ℤ → (ℕ → Bool) → Type 0
+FlagsAffected g removed values flagged = (k : ℕ) → IsAffectedBy g removed values k → flagged k ≡ true
+
+-- whichever flags have each affected node, a withdrawal takes at most two steps and, for each flagged node, five and two
+-- for each arc in force that reaches or leaves it
+abbrev pub TakesFewToFall : GraphLists → List Arc → List ℤ → ℕ → ℕ → Type 0
+TakesFewToFall g removed values before after = (flagged : ℕ → Bool) → FlagsAffected g removed values flagged
+    → after ≤ before + flagged_sum (length g.nodes) (λ k. 2 * (reaching g k + departing g k) + 5) flagged + 2
+
+-- whichever flags have each affected node, it writes no more places of the list that it works in than nodes are flagged
+abbrev pub ListsFewNodes : GraphLists → List Arc → List ℤ → List ℕ → List ℕ → Type 0
+ListsFewNodes g removed values old new = (flagged : ℕ → Bool) → FlagsAffected g removed values flagged → LeavesFrom (flagged_count (length g.nodes) flagged) old new
+
+-- whichever flags have each affected node, the value of each other node stays
+abbrev pub ChangesFewValues : GraphLists → List Arc → List ℤ → List ℤ → Type 0
+ChangesFewValues g removed old new = (flagged : ℕ → Bool) → FlagsAffected g removed old flagged → (k : ℕ) → flagged k ≡ false → at new k ≡ at old k
 
 -- the key of a node that waits is how far it is to fall
 abbrev pub waits_of : Option ℤ → Bool

@@ -7,7 +7,7 @@ ghost use Rattle.problem_model.specs.Numbers.{IsUpTo};
 ghost use Rattle.problem_model.specs.Sums.{sum_to};
 ghost use Rattle.problem_model.specs.Limits.{most_nodes, path_bits};
 ghost use Rattle.sync_graph.specs.Graph.{IsSound, unnamed, reaching};
-ghost use Rattle.withdrawals.specs.Withdrawals.{IsExact};
+ghost use Rattle.withdrawals.specs.Withdrawals.{IsExact, LeavesFrom};
 ghost use Rattle.earliest.specs.Values.{AreSmall};
 ghost use Rattle.earliest.specs.Withdrawn.{waits_at, found_at, arcs_before, IsMarkedBy, IsFallMarking};
 
@@ -69,8 +69,10 @@ pub fn mark_removed(
     requires empty { (k : ℕ) → waits_at front.old k ≡ false }
     ensures marking { IsFallMarking g.now (arcs_before g.now removed.now) (map unnamed removed.now) values.now front.new found.new result 0 }
     ensures gone { All (λ a. IsExact (at values.now) a → waits_at front.new a.from ≡ true) (map unnamed removed.now) }
+    ensures places { LeavesFrom result found.old found.new }
     ensures room { length front.new ≡ length front.old }
 {
+    // It tells what the lists of the graph hold.
     g.exact();
     let mut count = 0;
     for i in 0..removed.len() {
@@ -105,10 +107,12 @@ pub fn mark_tails<L: Ledger>(
         → IsFallMarking g.now before gone values.now front.new found.new result (so_far.done + 1) }
     ensures keeps { (k : ℕ) → waits_at front.old k ≡ true → waits_at front.new k ≡ true }
     ensures before { (i : ℕ) → i < so_far.count → found_at found.new i ≡ found_at found.old i }
+    ensures places { LeavesFrom result found.old found.new }
     ensures more { so_far.count ≤ result }
     ensures room { length front.new ≡ length front.old }
     ensures steps { steps.new ≤ steps.old + reaching g.now (found_at found.old so_far.done) + 1 }
 {
+    // It tells what the lists of the graph hold.
     g.exact();
     let done = so_far.done;
     let node = found[done as usize];
@@ -137,9 +141,12 @@ pub fn mark_all<L: Ledger>(
         → IsFallMarking g.now before gone values.now front.old found.old first 0
         → IsFallMarking g.now before gone values.now front.new found.new result result }
     ensures keeps { (k : ℕ) → waits_at front.old k ≡ true → waits_at front.new k ≡ true }
+    ensures places { LeavesFrom result found.old found.new }
+    ensures more { first ≤ result }
     ensures room { length front.new ≡ length front.old }
     ensures steps { steps.new ≤ steps.old + sum_to result (λ i. reaching g.now (found_at found.new i) + 1) }
 {
+    // It tells what the lists of the graph hold.
     g.exact();
     let mut count = first;
     let mut done = 0;

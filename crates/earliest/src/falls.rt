@@ -48,6 +48,7 @@ pub fn stop_tail(values: &[i128], g: &Graph, arc: u32, front: &mut Frontier)
     ensures nodes { (k : ℕ) → waits_at front.new k ≡ waits_at front.old k }
     ensures room { length front.new ≡ length front.old }
 {
+    // It tells what the lists of the graph hold.
     g.exact();
     let raise = raise_asked(values, g, arc);
     let a = g.arc(arc);
@@ -72,6 +73,7 @@ pub fn pull<L: Ledger>(
     ensures room { length front.new ≡ length front.old }
     ensures steps { steps.new ≤ steps.old + departing g.now node + 1 }
 {
+    // It tells what the lists of the graph hold.
     g.exact();
     let mut k = 0;
     while let Some(arc) = g.leaving(node, k, steps) {
@@ -95,6 +97,7 @@ pub fn stop_tails<L: Ledger>(
     ensures room { length front.new ≡ length front.old }
     ensures steps { steps.new ≤ steps.old + reaching g.now node + 1 }
 {
+    // It tells what the lists of the graph hold.
     g.exact();
     let mut k = 0;
     while let Some(arc) = g.arriving(node, k, steps) {
@@ -121,6 +124,7 @@ pub fn pull_all<L: Ledger>(
     ensures room { length front.new ≡ length front.old }
     ensures steps { steps.new ≤ steps.old + sum_to count (λ i. departing g.now (found_at found.now i) + 1) }
 {
+    // It tells what the lists of the graph hold.
     g.exact();
     for i in 0..count {
         let node = found[i as usize];
@@ -143,6 +147,7 @@ pub fn settle_falls<L: Ledger>(
     ensures room { length front.new ≡ length front.old }
     ensures steps { steps.new ≤ steps.old + flagged_sum (length g.now.nodes) (λ k. reaching g.now k + 2) (waits_at front.old) + 1 }
 {
+    // It tells what the lists of the graph hold.
     g.exact();
     while let Some((node, key)) = front.pop(steps) {
         lift(values, node, key);

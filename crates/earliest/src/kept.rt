@@ -1,12 +1,11 @@
 // The earliest execution, as it is kept.
-ghost use Rattle.std.specs.Prelude.{◌≡◌, ℕ, Bool, ◌+◌, ◌*◌, ◌<◌, ◌≤◌, ◌++◌, ◌∷◌, [], false, true, IfOk, OnOk, OnErr, All, length, pos, replicate, slice_index_or};
+ghost use Rattle.std.specs.Prelude.{◌≡◌, ◌+◌, ◌<◌, ◌≤◌, ◌++◌, ◌∷◌, [], false, true, IfOk, OnOk, OnErr, All, length, pos, replicate, slice_index_or};
 ghost use Rattle.problem_model.specs.Executions.{at};
-ghost use Rattle.withdrawals.specs.Withdrawals.{flagged_sum};
-ghost use Rattle.sync_graph.specs.Graph.{IsSound, reaching, departing};
+ghost use Rattle.sync_graph.specs.Graph.{IsSound};
 ghost use Rattle.earliest.specs.Values.{IsEarliestOf, IsEarliestBut};
 ghost use Rattle.earliest.specs.Inserted.{IsInserted};
 ghost use Rattle.earliest.specs.Steps.{most_insert_steps};
-ghost use Rattle.earliest.specs.Withdrawn.{IsEarliestWith, IsAffectedBy};
+ghost use Rattle.earliest.specs.Withdrawn.{IsEarliestWith, TakesFewToFall, ListsFewNodes, ChangesFewValues};
 
 use crate::cycle::cycle_of;
 use crate::inserted::Inserted;
@@ -19,12 +18,12 @@ use std::marker::Model;
 use std::sync::ledger::Ledger;
 use sync_graph::{Arc, Graph};
 
-/// One value for each node, in units of 1e-9 ns, and whether they are the earliest execution of a graph.
+/// One value for each node, in units of 1e-9 ns, whether they are the earliest execution of a graph, and a list to work in.
 #[derive(Drop)]
 pub struct Earliest {
     alloc: Global,
     values: Vec<i128>,
-    // The arc that asked for each raise, during a call.
+    // The arc that asked for each raise while an arc is brought in, and the affected nodes while arcs are withdrawn.
     parents: Vec<u32>,
     solved: bool,
 }
@@ -35,7 +34,7 @@ impl Model for Earliest {
 
     ghost Value = { Values };
 
-    ghost view = { λ e. record { values = e.values.items; is_solved = e.solved } };
+    ghost view = { λ e. record { values = e.values.items; is_solved = e.solved; workspace = e.parents.items } };
 
     ghost invariant = { λ e. length e.parents.items ≡ length e.values.items };
 }
@@ -43,7 +42,7 @@ impl Model for Earliest {
 impl Earliest {
     /// No values, solved. It takes no memory.
     pub fn new(alloc: Global) -> Earliest
-        ensures { result ≡ record { values = []; is_solved = true } }
+        ensures { result ≡ record { values = []; is_solved = true; workspace = [] } }
     {
         Earliest {
             alloc,
@@ -71,7 +70,7 @@ impl Earliest {
 
     /// Appends a node of value 0. All stays as it was where memory runs out.
     pub fn push_node(&mut self) -> Result<(), AllocError>
-        ensures ok { OnOk result (self.new ≡ record { values = self.old.values ++ pos 0 ∷ []; is_solved = self.old.is_solved }) }
+        ensures ok { OnOk result (self.new ≡ record { values = self.old.values ++ pos 0 ∷ []; is_solved = self.old.is_solved; workspace = self.old.workspace ++ 0 ∷ [] }) }
         ensures err { OnErr result (self.new ≡ self.old) }
     {
         if let Err(_) = self.values.reserve(1) {
@@ -87,7 +86,7 @@ impl Earliest {
 
     /// All values 0, solved: the earliest execution where no arc is in force.
     pub(crate) fn set_zero(&mut self)
-        ensures { self.new ≡ record { values = replicate (length self.old.values) (pos 0); is_solved = true } }
+        ensures { self.new ≡ record { values = replicate (length self.old.values) (pos 0); is_solved = true; workspace = self.old.workspace } }
     {
         self.values.fill(0);
         self.solved = true;
@@ -95,7 +94,7 @@ impl Earliest {
 
     /// Leaves the values as they are, unsolved.
     pub(crate) fn unsolve(&mut self)
-        ensures { self.new ≡ record { values = self.old.values; is_solved = false } }
+        ensures { self.new ≡ record { values = self.old.values; is_solved = false; workspace = self.old.workspace } }
     {
         self.solved = false;
     }
@@ -128,6 +127,7 @@ impl Earliest {
         ensures values { length self.new.values ≡ length self.old.values }
         ensures queue { queue.new ≡ queue.old }
     {
+        // It tells how many arcs the lists of all nodes hold together.
         g.degrees();
         let front = &mut queue.front;
         self.solved = add_arc(&mut self.values, &mut self.parents, g, arc, front, steps);
@@ -144,7 +144,8 @@ impl Earliest {
     ///
     /// A node is affected where a chain of arcs that the values before meet exactly starts at it and ends by one of
     /// those removed. There are at most two steps and, for each affected node, five and two for each arc in force that
-    /// reaches or leaves it.
+    /// reaches or leaves it. No value but those of affected nodes is changed, and no more places of the list that it works
+    /// in than there are of these.
     pub fn withdraw<L: Ledger>(
         &mut self,
         g: &Graph,
@@ -159,8 +160,9 @@ impl Earliest {
         ensures solved { self.new.is_solved ≡ true }
         ensures earliest { IsEarliestOf g.now self.new.values }
         ensures queue { queue.new ≡ queue.old }
-        ensures steps { (affected : ℕ → Bool) → ((k : ℕ) → IsAffectedBy g.now removed.now self.old.values k → affected k ≡ true)
-            → steps.new ≤ steps.old + flagged_sum (length g.now.nodes) (λ k. 2 * (reaching g.now k + departing g.now k) + 5) affected + 2 }
+        ensures steps { TakesFewToFall g.now removed.now self.old.values steps.old steps.new }
+        ensures places { ListsFewNodes g.now removed.now self.old.values self.old.workspace self.new.workspace }
+        ensures others { ChangesFewValues g.now removed.now self.old.values self.new.values }
     {
         let front = &mut queue.front;
         withdraw_arcs(

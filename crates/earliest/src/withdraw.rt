@@ -1,10 +1,9 @@
 // The withdrawal of arcs.
-ghost use Rattle.std.specs.Prelude.{◌≡◌, ℕ, ◌+◌, ◌*◌, ◌≤◌, true, Bool, All, length};
+ghost use Rattle.std.specs.Prelude.{◌≡◌, ◌≤◌, All, length};
 ghost use Rattle.frontier.specs.Keys.{IsEmpty};
-ghost use Rattle.sync_graph.specs.Graph.{IsSound, reaching, departing};
-ghost use Rattle.withdrawals.specs.Withdrawals.{flagged_sum};
+ghost use Rattle.sync_graph.specs.Graph.{IsSound};
 ghost use Rattle.earliest.specs.Values.{IsEarliestOf};
-ghost use Rattle.earliest.specs.Withdrawn.{IsEarliestWith, IsAffectedBy};
+ghost use Rattle.earliest.specs.Withdrawn.{IsEarliestWith, TakesFewToFall, ListsFewNodes, ChangesFewValues};
 
 use crate::affected::{mark_all, mark_removed};
 use crate::falls::{pull_all, settle_falls};
@@ -14,7 +13,7 @@ use std::sync::ledger::Ledger;
 use sync_graph::{Arc, Graph};
 
 /// Makes the earliest execution of the arcs in force and those removed one of the arcs in force alone. `found` is a list
-/// to work in.
+/// to work in. No value but those of affected nodes is changed, and no more places of `found` than there are of these.
 pub fn withdraw_arcs<L: Ledger>(
     values: &mut [i128],
     found: &mut [u32],
@@ -31,9 +30,11 @@ pub fn withdraw_arcs<L: Ledger>(
     ensures earliest { IsEarliestOf g.now values.new }
     ensures empty { IsEmpty front.new }
     ensures room { length front.new ≡ length front.old }
-    ensures steps { (affected : ℕ → Bool) → ((k : ℕ) → IsAffectedBy g.now removed.now values.old k → affected k ≡ true)
-        → steps.new ≤ steps.old + flagged_sum (length g.now.nodes) (λ k. 2 * (reaching g.now k + departing g.now k) + 5) affected + 2 }
+    ensures steps { TakesFewToFall g.now removed.now values.old steps.old steps.new }
+    ensures places { ListsFewNodes g.now removed.now values.old found.old found.new }
+    ensures others { ChangesFewValues g.now removed.now values.old values.new }
 {
+    // It tells what the lists of the graph hold.
     g.exact();
     let first = mark_removed(values, found, g, removed, front);
     let count = mark_all(values, found, first, g, front, steps);

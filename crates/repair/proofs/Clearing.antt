@@ -12,6 +12,8 @@ use Rattle.sync_graph.specs.Graph.{GraphLists, IsGraph, arc_at}
 use Rattle.sync_graph.specs.Lists.{list_at}
 use Rattle.earliest.specs.Withdrawn.{found_at}
 use Rattle.earliest.proofs.Bounds.{no_arc}
+use Rattle.withdrawals.specs.Withdrawals.{LeavesFrom}
+use Rattle.withdrawals.proofs.Places.{leaves_all, leaves_behind}
 use Rattle.withdrawals.specs.Regrowths.{earlier, IsSameAs, IsAffectedIn, IsFoundIn}
 use Rattle.withdrawals.proofs.Marks.{parent_of, affected_seed, affected_child, none_marked_in, found_marking_in, done_marking_in, room_in, few_found_in}
 use Rattle.distances.specs.Changes.{AreBlank}
@@ -102,6 +104,13 @@ pub cleared_lengths : (why : Type 0) (row row' : List Cell) (found found' : List
 cleared_lengths why row row' found found' count node result b = elim b [
   | inl q ↦ (ap length q.0.row_is, ap length q.0.found_is, omega (arith, q.0.as_many), λ i l. ap (λ v. get_or v i 0) q.0.found_is)
   | inr q ↦ (ap length q.0.row_is ∙ length-set row node unknown, ap length q.0.found_is ∙ length-set found count node, omega (arith, q.0.one_more), λ i l. ap (λ v. get_or v i 0) q.0.found_is ∙ get_or-set_other found count i node 0 (λ e. omega arith))
+]
+
+-- the places behind those that are listed
+pub cleared_places : (why : Type 0) (row row' : List Cell) (found found' : List ℕ) (count node result : ℕ) → IsClearedIf why row row' found found' count node result → LeavesFrom result found found'
+cleared_places why row row' found found' count node result b = elim b [
+  | inl q ↦ leaves_all found found' result q.0.found_is
+  | inr q ↦ leaves_behind found found' count node result q.0.found_is q.0.one_more
 ]
 
 -- cells that are not known are blank still

@@ -12,3 +12,4 @@ pub mod Repairs
 pub mod Sameness
 pub mod Turning
 pub mod Whole
+pub mod Rooms

@@ -24,10 +24,10 @@ pairs-tail : (slot : Slot) (rest : List Slot) → AllPairs HaveOwnRows (slot ∷
 pairs-tail slot rest pairs i j d less below = pairs (suc i) (suc j) d (omega arith) (let b : suc j < suc (length rest) = omega arith in b)
 
 -- later slots do not have the rows of an earlier one
-miss_from : (slot : Slot) (rest : List Slot) → All (HaveOwnRows slot) rest → All (Misses slot.from) rest
+pub miss_from : (slot : Slot) (rest : List Slot) → All (HaveOwnRows slot) rest → All (Misses slot.from) rest
 miss_from slot rest = All-weaker (HaveOwnRows slot) (Misses slot.from) (λ other apart. (λ e. apart.from_from (sym e), λ e. apart.from_to (sym e))) rest
 
-miss_to : (slot : Slot) (rest : List Slot) → All (HaveOwnRows slot) rest → All (Misses slot.to) rest
+pub miss_to : (slot : Slot) (rest : List Slot) → All (HaveOwnRows slot) rest → All (Misses slot.to) rest
 miss_to slot rest = All-weaker (HaveOwnRows slot) (Misses slot.to) (λ other apart. (λ e. apart.to_from (sym e), λ e. apart.to_to (sym e))) rest
 
 -- nor an earlier one those of a later

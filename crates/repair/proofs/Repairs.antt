@@ -26,7 +26,7 @@ use Rattle.earliest.proofs.Bounds.{no_arc}
 use Rattle.withdrawals.specs.Regrowths.{earlier, IsSameAs, IsAffectedIn, AreMarksIn, IsRemnant}
 use Rattle.withdrawals.proofs.Marks.{are_marks_in}
 use Rattle.withdrawals.proofs.Remnants.{remnant, open_marked_in, unmarked_in}
-use Rattle.withdrawals.proofs.Bounds.{changed_within, regrowth_cost}
+use Rattle.withdrawals.proofs.Bounds.{changed_within, unmarked_same, regrowth_cost}
 use Rattle.distances.specs.Changes.{steps_at, steps_of_changes}
 use Rattle.distances.specs.declared.side.Side.{Side}
 use Rattle.distances.specs.declared.side.Side.TheVariants.{From, Towards}
@@ -115,6 +115,14 @@ pos_le v n h l = omega (arith, ints)
 between : (v a b : ℤ) → IsUpTo path_bits a → IsUpTo path_bits b → (a -ℤ b) ≤ℤ v → v ≤ℤ pos (2 ^ path_bits) → IsUpTo (path_bits + 1) v
 between v a b ua ub l h = (omega (arith, ints, ua.0, ub.1), omega (arith, ints))
 
+-- a cell is its three parts
+made : ℤ → ℕ → Bool → Cell
+made value parent known = record { value = value; parent = parent; known = known }
+
+one_cell : (a b : Cell) → a.known ≡ b.known → a.value ≡ b.value → a.parent ≡ b.parent → a ≡ b
+unfolding made
+one_cell a b ek ev ep = ap (λ v. made v a.parent a.known) ev ∙ ap (λ p. made b.value p a.known) ep ∙ ap (λ k. made b.value b.parent k) ek
+
 module _ (g : GraphLists) (is : IsGraph g) (side : Side) (values : List ℤ) (was : ℕ → Bool) (removed : List Arc) (p : ℕ) (row0 row : List Cell) (marks : ℕ → Bool) (found : List ℕ) (count : ℕ)
     (small : All (IsUpTo path_bits) values)
     (x : ObeysAll (facing side g) (potential side values))
@@ -157,6 +165,14 @@ module _ (g : GraphLists) (is : IsGraph g) (side : Side) (values : List ℤ) (wa
         → (i : ℕ) × (i < count) × (found_at found i ≡ ((facing side g).arc j).to)
     open_found j f ht hh = m.listed ((facing side g).arc j).to
         (open_marked_in (length g.nodes) (facing side g) was (IsRemoved g removed) p (potential side values) (cells_of row0) r.shrunk r.row x (cells_of row) marks are_marks m.cells j f ht hh)
+
+    -- the cell of a node that is not marked is as before
+    pub cell_same : (row2 : List Cell) (front2 : List (Option ℤ)) → IsUnderWay (length g.nodes) (facing side g) p (potential side values) (2 ^ (path_bits + 2)) (2 ^ 93) (cells_of row) (cells_of row2) (waits_of front2) → IsEmpty front2
+        → (k : ℕ) → marks k ≡ false → cell_at row2 k ≡ cell_at row0 k
+    cell_same row2 front2 u empty k f =
+        let s : IsSameAs (cells_of row0) (cells_of row2) k = unmarked_same (length g.nodes) (facing side g) was (IsRemoved g removed) p (potential side values) (2 ^ (path_bits + 2)) (2 ^ 93) (cells_of row0) (cells_of row) (cells_of row2) marks (waits_of front2)
+        r.shrunk r.row m.cells left_over u (none_waits front2 empty) k f in
+        one_cell (cell_at row2 k) (cell_at row0 k) s.0 s.1 s.2
 
     -- ---- what it costs
     module _ (row2 : List Cell) (front2 : List (Option ℤ)) (start marked last : ℕ) (affected : ℕ → Bool)

@@ -1,13 +1,13 @@
 -- A search that goes from nodes, and the same the other way round.
-use Rattle.std.proofs.Common.{◌≡◌, ℕ, ◌+◌, ◌*◌, ◌≤◌, Bool, true, List, length, sym, ap, subst, ◌∙◌, arith}
+use Rattle.std.proofs.Common.{◌≡◌, ℕ, ◌+◌, ◌*◌, ◌≤◌, Bool, false, true, List, length, sym, ap, subst, ◌∙◌, arith}
 use Rattle.problem_model.specs.Parents.{IsRow}
 use Rattle.problem_model.specs.Tables.{ArcTable, reversed_table, without}
-use Rattle.withdrawals.specs.Withdrawals.{flagged_sum}
+use Rattle.withdrawals.specs.Withdrawals.{flagged_sum, flagged_count, LeavesFrom}
 use Rattle.withdrawals.specs.Regrowths.{IsAffectedIn}
 use Rattle.sync_graph.specs.declared.arc.Arc.{Arc}
 use Rattle.sync_graph.specs.Graph.{GraphLists, table_of, reaching, departing}
 use Rattle.row_pool.specs.declared.cell.Cell.{Cell}
-use Rattle.row_pool.specs.Row.{cells_of}
+use Rattle.row_pool.specs.Row.{cell_at, cells_of}
 use Rattle.row_pool.specs.Pool.{Pool}
 use Rattle.distances.specs.declared.side.Side.{Side}
 use Rattle.distances.specs.declared.side.Side.TheVariants.{From, Towards}
@@ -31,6 +31,18 @@ TakesFewFor arcs g removed p row before after =
     (affected : ℕ → Bool) → ((k : ℕ) → IsAffectedIn arcs (IsRemoved g removed) p (cells_of row) k → affected k ≡ true)
     → after ≤ before + flagged_sum (length g.nodes) (λ k. 2 * (reaching g k + departing g k) + 5) affected + 2
 
+-- the places that it writes
+abbrev pub WritesFewFor : ArcTable → GraphLists → List Arc → ℕ → List Cell → List ℕ → List ℕ → Type 0
+WritesFewFor arcs g removed p row found found' =
+    (affected : ℕ → Bool) → ((k : ℕ) → IsAffectedIn arcs (IsRemoved g removed) p (cells_of row) k → affected k ≡ true)
+    → LeavesFrom (flagged_count (length g.nodes) affected) found found'
+
+-- the cells that it leaves
+abbrev pub LeavesFor : ArcTable → GraphLists → List Arc → ℕ → List Cell → List Cell → Type 0
+LeavesFor arcs g removed p row row' =
+    (affected : ℕ → Bool) → ((k : ℕ) → IsAffectedIn arcs (IsRemoved g removed) p (cells_of row) k → affected k ≡ true)
+    → (k : ℕ) → affected k ≡ false → cell_at row' k ≡ cell_at row k
+
 module _ (s : Searched) (outward : s.side ≡ From) where
   from_table : table s ≡ table_of s.graph
   from_table = ap (λ (d : Side). facing d s.graph) outward
@@ -46,6 +58,12 @@ module _ (s : Searched) (outward : s.side ≡ From) where
 
   pub from_few : (removed : List Arc) (p : ℕ) (row : List Cell) (before after : ℕ) → TakesFewFor (table s) s.graph removed p row before after → TakesFewFor (table_of s.graph) s.graph removed p row before after
   from_few removed p row before after h = subst (λ (x : ArcTable). TakesFewFor x s.graph removed p row before after) from_table h
+
+  pub from_places : (removed : List Arc) (p : ℕ) (row : List Cell) (found found' : List ℕ) → WritesFewFor (table s) s.graph removed p row found found' → WritesFewFor (table_of s.graph) s.graph removed p row found found'
+  from_places removed p row found found' h = subst (λ (x : ArcTable). WritesFewFor x s.graph removed p row found found') from_table h
+
+  pub from_cells : (removed : List Arc) (p : ℕ) (row row' : List Cell) → LeavesFor (table s) s.graph removed p row row' → LeavesFor (table_of s.graph) s.graph removed p row row'
+  from_cells removed p row row' h = subst (λ (x : ArcTable). LeavesFor x s.graph removed p row row') from_table h
 
   -- the other way round
   module _ (t : Searched) (is : t ≡ record { graph = s.graph; values = s.values; side = opposite s.side }) where
@@ -88,3 +106,17 @@ module _ (s : Searched) (outward : s.side ≡ From) where
         subst (λ (rs : List Arc). TakesFewFor (reversed_table (table_of s.graph)) s.graph rs p row before after) same
         (subst (λ (g : GraphLists). TakesFewFor (reversed_table (table_of s.graph)) g removed' p row before after) back_graph
         (subst (λ (x : ArcTable). TakesFewFor x t.graph removed' p row before after) back_table h))
+
+    pub back_places : (removed removed' : List Arc) (p : ℕ) (row : List Cell) (found found' : List ℕ) → removed' ≡ removed → WritesFewFor (table t) t.graph removed' p row found found'
+        → WritesFewFor (reversed_table (table_of s.graph)) s.graph removed p row found found'
+    back_places removed removed' p row found found' same h =
+        subst (λ (rs : List Arc). WritesFewFor (reversed_table (table_of s.graph)) s.graph rs p row found found') same
+        (subst (λ (g : GraphLists). WritesFewFor (reversed_table (table_of s.graph)) g removed' p row found found') back_graph
+        (subst (λ (x : ArcTable). WritesFewFor x t.graph removed' p row found found') back_table h))
+
+    pub back_cells : (removed removed' : List Arc) (p : ℕ) (row row' : List Cell) → removed' ≡ removed → LeavesFor (table t) t.graph removed' p row row'
+        → LeavesFor (reversed_table (table_of s.graph)) s.graph removed p row row'
+    back_cells removed removed' p row row' same h =
+        subst (λ (rs : List Arc). LeavesFor (reversed_table (table_of s.graph)) s.graph rs p row row') same
+        (subst (λ (g : GraphLists). LeavesFor (reversed_table (table_of s.graph)) g removed' p row row') back_graph
+        (subst (λ (x : ArcTable). LeavesFor x t.graph removed' p row row') back_table h))

@@ -61,8 +61,9 @@ module _ (source : Option Slot) (entries one : List (Option Slot)) (is : one ≡
           repairs_behind g source (slots_in entries) old mid new before between after own (subst (λ (xs : List Slot). Repairs g xs old mid before between) first_is first)
           (subst (λ (xs : List (Option Slot)). Repairs g (slots_in xs) mid new between after) are then)
 
-      pub withdraws_whole : (removed : List Arc) (new : Pool) (before between after : ℕ) → WithdrawsRows g removed (slots_in one) old mid before between → WithdrawsRows g removed (slots_in others) mid new between after
-          → WithdrawsRows g removed whole old new before after
-      withdraws_whole removed new before between after first then =
-          withdraws_behind g removed source (slots_in entries) old mid new before between after own (subst (λ (xs : List Slot). WithdrawsRows g removed xs old mid before between) first_is first)
-          (subst (λ (xs : List (Option Slot)). WithdrawsRows g removed (slots_in xs) mid new between after) are then)
+      pub withdraws_whole : (removed : List Arc) (new : Pool) (found listed again last : List ℕ) → again ≡ listed → (before between after : ℕ) → WithdrawsRows g removed (slots_in one) old mid found listed before between → WithdrawsRows g removed (slots_in others) mid new again last between after
+          → WithdrawsRows g removed whole old new found last before after
+      withdraws_whole removed new found listed again last same before between after first then =
+          withdraws_behind g removed source (slots_in entries) old mid new found listed last before between after own (subst (λ (xs : List Slot). WithdrawsRows g removed xs old mid found listed before between) first_is first)
+          (subst (λ (xs : List (Option Slot)). WithdrawsRows g removed (slots_in xs) mid new listed last between after) are
+          (subst (λ (ls : List ℕ). WithdrawsRows g removed (slots_in others) mid new ls last between after) same then))

@@ -1,5 +1,5 @@
 -- The two rows of a slot that are written one after the other.
-use Rattle.std.proofs.Common.{◌≡◌, ◌≢◌, ℕ, ◌+◌, ◌<◌, ◌≤◌, arith, false, List, [], ◌∷◌, length, refl, sym, ap, subst, inl, inr, ◌∙◌, length-set, get_or-set_same}
+use Rattle.std.proofs.Common.{◌≡◌, ◌≢◌, ℕ, ◌+◌, ◌<◌, ◌≤◌, arith, Bool, false, List, [], ◌∷◌, length, refl, sym, ap, subst, inl, inr, ◌∙◌, length-set, get_or-set_same}
 use Rattle.std.proofs.lemmas.List.Elements.{All-head}
 use Rattle.row_pool.specs.declared.cell.Cell.{Cell}
 use Rattle.row_pool.specs.Pool.{PoolRow, Pool, IsPool, row_at, row_of, IsTakenRow, written_pool, with_cells}
@@ -7,10 +7,11 @@ use Rattle.row_pool.proofs.Pools.{written_row, with_cells_lawful, own_cells, oth
 use Rattle.repair.specs.declared.slot.Slot.{Slot}
 use Rattle.repair.specs.Slots.{HasRows, IsRowsOf, ChangesRowsOf}
 use Rattle.repair.specs.Renewals.{insertion_steps}
+use Rattle.repair.specs.Withdrawals.{LeavesCells}
 use Rattle.problem_model.specs.Parents.{IsRow}
 use Rattle.problem_model.specs.Tables.{ArcTable, reversed_table}
 use Rattle.sync_graph.specs.Graph.{GraphLists}
-use Rattle.row_pool.specs.Row.{cells_of}
+use Rattle.row_pool.specs.Row.{cell_at, cells_of}
 use Rattle.distances.specs.Changes.{AreBlank, steps_of_changes}
 use Rattle.std.proofs.lemmas.Bool.{cases_eq}
 
@@ -93,6 +94,15 @@ module _ (pool : Pool) (slot : Slot) (lawful : IsPool pool) (has : HasRows pool 
       to = subst (λ (cs : List Cell). IsRow nodes (reversed_table table) slot.node (cells_of cs)) (sym to_is) r';
       blank_from = subst AreBlank (sym from_is) b;
       blank_to = subst AreBlank (sym to_is) b';
+    }
+
+    -- the cells that neither changes
+    pub leaves_both : (marks : ℕ → ℕ → Bool) (was was' : List Cell) → was ≡ row_of pool slot.from → was' ≡ row_of pool slot.to
+        → ((k : ℕ) → marks slot.from k ≡ false → cell_at one k ≡ cell_at was k) → ((k : ℕ) → marks slot.to k ≡ false → cell_at two k ≡ cell_at was' k)
+        → LeavesCells marks pool last slot
+    leaves_both marks was was' e e' h h' = record {
+      from = λ k free. ap (λ (cs : List Cell). cell_at cs k) from_is ∙ h k free ∙ ap (λ (cs : List Cell). cell_at cs k) e;
+      to = λ k free. ap (λ (cs : List Cell). cell_at cs k) to_is ∙ h' k free ∙ ap (λ (cs : List Cell). cell_at cs k) e';
     }
 
     -- the steps of both rows

@@ -17,11 +17,11 @@ pub record TakesRows (old new : Pool) (slot : Slot) : Type 0 where
 
 -- one slot more
 abbrev pub with_slot : KeptRows → Slot → KeptRows
-with_slot kept slot = record { slots = kept.slots ++ slot ∷ []; source = kept.source; present = kept.present; room = kept.room }
+with_slot kept slot = record { slots = kept.slots ++ slot ∷ []; source = kept.source; present = kept.present; room = kept.room; found = kept.found }
 
 -- the slot of the source
 abbrev pub with_source : KeptRows → Slot → KeptRows
-with_source kept slot = record { slots = kept.slots; source = Some slot; present = kept.present; room = kept.room }
+with_source kept slot = record { slots = kept.slots; source = Some slot; present = kept.present; room = kept.room; found = kept.found }
 
 -- the slot of the node has this number, counted from 1
 abbrev pub IsSlotNumber : KeptRows → ℕ → ℕ → Type 0

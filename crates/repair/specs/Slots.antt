@@ -1,5 +1,5 @@
 -- Nodes of which the rows are kept.
-use Rattle.std.specs.Prelude.{◌≡◌, ◌≢◌, ℕ, ◌<◌, ◌==◌, ◌∷◌, [], Bool, true, List, length, Option, Some, None, find, All, AllPairs}
+use Rattle.std.specs.Prelude.{◌≡◌, ◌≢◌, ℕ, ◌-◌, ◌<◌, ◌==◌, ◌∷◌, ◌++◌, [], replicate, Bool, true, List, length, Option, Some, None, find, All, AllPairs}
 use Rattle.problem_model.specs.Parents.{IsRow}
 use Rattle.problem_model.specs.Tables.{ArcTable, reversed_table, without}
 use Rattle.sync_graph.specs.Graph.{GraphLists, table_of}
@@ -14,24 +14,30 @@ slots_in [] = []
 slots_in (None ∷ rest) = slots_in rest
 slots_in (Some slot ∷ rest) = slot ∷ slots_in rest
 
--- the slots of events in the order in which they were kept, that of the source, whether the rows are those of the graph, and the room
+-- the slots of events in the order in which they were kept, that of the source, whether the rows are those of the graph,
+-- the room, and the list that affected nodes are listed in
 pub record KeptRows : Type 0 where
   pub slots : List Slot
   pub source : Option Slot
   pub present : Bool
   pub room : ℕ
+  pub found : List ℕ
 
 -- no slot is kept, the rows are those of the graph, and the room is 0
 abbrev pub nothing_kept : KeptRows
-nothing_kept = record { slots = []; source = None; present = true; room = 0 }
+nothing_kept = record { slots = []; source = None; present = true; room = 0; found = [] }
 
 -- the same slots, of which the rows are those of the graph, or are not
 abbrev pub with_presence : KeptRows → Bool → KeptRows
-with_presence kept present = record { slots = kept.slots; source = kept.source; present = present; room = kept.room }
+with_presence kept present = record { slots = kept.slots; source = kept.source; present = present; room = kept.room; found = kept.found }
 
--- the same slots with another room
+-- the same slots with another room, and as long a list
 abbrev pub with_room : KeptRows → ℕ → KeptRows
-with_room kept room = record { slots = kept.slots; source = kept.source; present = kept.present; room = room }
+with_room kept room = record { slots = kept.slots; source = kept.source; present = kept.present; room = room; found = kept.found ++ replicate (room - length kept.found) 0 }
+
+-- the same slots with another list
+abbrev pub with_found : KeptRows → List ℕ → KeptRows
+with_found kept found = record { slots = kept.slots; source = kept.source; present = kept.present; room = kept.room; found = found }
 
 -- all slots, that of the source before the others
 abbrev pub behind : Option Slot → List Slot → List Slot

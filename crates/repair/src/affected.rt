@@ -3,6 +3,7 @@ ghost use Rattle.std.specs.Prelude.{◌≡◌, ◌≢◌, ℕ, ◌+◌, ◌<◌,
 ghost use Rattle.problem_model.specs.Parents.{Cells};
 ghost use Rattle.problem_model.specs.Sums.{sum_to};
 ghost use Rattle.problem_model.specs.Limits.{most_nodes};
+ghost use Rattle.withdrawals.specs.Withdrawals.{LeavesFrom};
 ghost use Rattle.row_pool.specs.Row.{cell_at, cells_of};
 ghost use Rattle.sync_graph.specs.declared.arc.Arc.{Arc as Removed};
 ghost use Rattle.sync_graph.specs.Graph.{arc_at};
@@ -75,8 +76,10 @@ pub fn clear_heads(search: &Search, removed: &[Arc], row: &mut [Cell], found: &m
     ensures marking { (was : ℕ → Bool) (p : ℕ) → IsRowBefore search.now.graph search.now.side was removed.now p (cells_of row.old)
         → (marks : ℕ → Bool) × IsMarkingOf search.now.graph search.now.side removed.now p (cells_of row.old) row.new marks found.new result 0
         × ((k : ℕ) → k ≢ p → (cell_at row.old k).known ≡ true → IsRemoved search.now.graph removed.now (cell_at row.old k).parent → marks k ≡ true) }
+    ensures places { LeavesFrom result found.old found.new }
     ensures blank { AreBlank row.old → AreBlank row.new }
 {
+    // It tells that the values are the earliest execution of the graph.
     search.exact();
     let mut count = 0;
     for i in 0..removed.len() {
@@ -119,10 +122,12 @@ pub fn clear_children<L: Ledger>(
         → IsRowBefore search.now.graph search.now.side was removed p old → IsMarkingOf search.now.graph search.now.side removed p old row.old marked found.old first done → done < first → found_at found.old done ≡ node
         → (marks : ℕ → Bool) × IsMarkingOf search.now.graph search.now.side removed p old row.new marks found.new result (done + 1) × ((k : ℕ) → marked k ≡ true → marks k ≡ true) }
     ensures before { (i : ℕ) → i < first → found_at found.new i ≡ found_at found.old i }
+    ensures places { LeavesFrom result found.old found.new }
     ensures more { first ≤ result }
     ensures blank { AreBlank row.old → AreBlank row.new }
     ensures steps { steps.new ≤ steps.old + onward search.now.side search.now.graph node + 1 }
 {
+    // It tells that the values are the earliest execution of the graph.
     search.exact();
     let mut count = first;
     let mut k = 0;
@@ -150,9 +155,12 @@ pub fn clear_all<L: Ledger>(
     ensures marking { (removed : List Removed) (was : ℕ → Bool) (p : ℕ) (old : Cells) (marked : ℕ → Bool)
         → IsRowBefore search.now.graph search.now.side was removed p old → IsMarkingOf search.now.graph search.now.side removed p old row.old marked found.old first 0
         → (marks : ℕ → Bool) × IsMarkingOf search.now.graph search.now.side removed p old row.new marks found.new result result × ((k : ℕ) → marked k ≡ true → marks k ≡ true) }
+    ensures places { LeavesFrom result found.old found.new }
+    ensures more { first ≤ result }
     ensures blank { AreBlank row.old → AreBlank row.new }
     ensures steps { steps.new ≤ steps.old + sum_to result (λ i. onward search.now.side search.now.graph (found_at found.new i) + 1) }
 {
+    // It tells that the values are the earliest execution of the graph.
     search.exact();
     let mut count = first;
     let mut done = 0;

@@ -7,10 +7,10 @@ ghost use Rattle.sync_graph.specs.InForce.{arcs_of};
 ghost use Rattle.repair.specs.declared.slot.Slot as slots;
 ghost use Rattle.row_pool.specs.Pool.{free_rows};
 ghost use Rattle.distances.specs.Searched.{nodes, table};
-ghost use Rattle.repair.specs.Slots.{nothing_kept, with_presence, with_room, slot_of, all_slots, AreNodes, AreOwnRows, AreRowsOf, AreRowsBut, ChangesRowsOf};
+ghost use Rattle.repair.specs.Slots.{nothing_kept, with_presence, with_room, with_found, slot_of, all_slots, AreNodes, AreOwnRows, AreRowsOf, AreRowsBut, ChangesRowsOf};
 ghost use Rattle.repair.specs.Keeping.{TakesRows, with_slot, with_source, IsSlotNumber, IsKeepRefused};
 ghost use Rattle.repair.specs.Renewals.{CanRenew, TakesFewSteps};
-ghost use Rattle.repair.specs.Withdrawals.{WereRows, TakesFewToWithdraw};
+ghost use Rattle.repair.specs.Withdrawals.{WereRows, TakesFewToWithdraw, ChangesFewCells, WritesFewPlaces};
 ghost use Rattle.repair.specs.Pairs.{IsPairIn};
 
 use crate::keep::{KeepError, new_slot};
@@ -30,27 +30,27 @@ use std::slice::from_ref;
 use std::sync::ledger::Ledger;
 
 /// Up to eight nodes of events and the node of the source's clock, each with two rows of a pool. It is seen as these slots,
-/// with whether their rows are those of the graph, and with the room for the nodes of a graph.
+/// with whether their rows are those of the graph, with the room for the nodes of a graph, and with the list that it has
+/// for them.
 #[derive(Drop)]
 pub struct Kept {
     slots: ArrayVec<Option<Slot>, 8>,
     source: Option<Slot>,
     present: bool,
-    // A place for each node that there is room for, in which affected nodes are listed. It stays laid out: a withdrawal
-    // writes no more places than nodes that it finds.
+    // A place for each node that there is room for, in which affected nodes are listed. It stays laid out.
     found: Vec<u32>,
     room: u32,
 }
 
 impl Model for Kept {
-    ghost use Rattle.std.specs.Prelude.{◌≡◌, ◌≤◌, length};
+    ghost use Rattle.std.specs.Prelude.{◌≡◌, length};
     ghost use Rattle.repair.specs.Slots.{KeptRows, slots_in};
 
     ghost Value = { KeptRows };
 
-    ghost view = { λ k. record { slots = slots_in k.slots.items; source = k.source; present = k.present; room = k.room } };
+    ghost view = { λ k. record { slots = slots_in k.slots.items; source = k.source; present = k.present; room = k.room; found = k.found.items } };
 
-    ghost invariant = { λ k. (length (slots_in k.slots.items) ≡ length k.slots.items) × (k.room ≤ length k.found.items) };
+    ghost invariant = { λ k. (length (slots_in k.slots.items) ≡ length k.slots.items) × (k.room ≡ length k.found.items) };
 }
 
 impl Kept {
@@ -259,8 +259,8 @@ impl Kept {
     }
 
     /// Repairs the rows of all slots once arcs were withdrawn, by a search from nodes: they were those of the graph before,
-    /// and are those of the graph now. It takes no memory, since room was reserved for all nodes, and nothing is laid out or
-    /// cleared for a node that is not affected.
+    /// and are those of the graph now. It takes no memory, since room was reserved for all nodes. No cell but those
+    /// of affected nodes is changed, and of the list that it works in no more places than nodes are affected in one row.
     ///
     /// A node is affected in a row where its path by parents had an arc that equals one of those removed. There are few
     /// steps: for each row two, and for each node that is affected in it five and two for each arc in force that reaches or
@@ -276,11 +276,13 @@ impl Kept {
         requires before { WereRows withdrawal.now.search.graph withdrawal.now.removed.now pool.old (all_slots self.old) }
         requires can { CanRenew withdrawal.now.search pool.old queue.old }
         requires found { nodes withdrawal.now.search ≤ self.old.room }
-        ensures slots { self.new ≡ with_presence self.old true }
+        ensures slots { self.new ≡ with_found (with_presence self.old true) self.new.found }
         ensures own { AreOwnRows self.new pool.new }
         ensures rows { AreRowsOf withdrawal.now.search.graph self.new pool.new }
         ensures others { ChangesRowsOf (all_slots self.old) pool.old pool.new }
         ensures few { TakesFewToWithdraw withdrawal.now.search.graph withdrawal.now.removed.now (all_slots self.old) pool.old steps.old steps.new }
+        ensures cells { ChangesFewCells withdrawal.now.search.graph withdrawal.now.removed.now (all_slots self.old) pool.old pool.new }
+        ensures places { WritesFewPlaces withdrawal.now.search.graph withdrawal.now.removed.now (all_slots self.old) pool.old self.old.found self.new.found }
         ensures queue { queue.new ≡ queue.old }
     {
         withdraw_all(

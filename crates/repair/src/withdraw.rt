@@ -1,10 +1,10 @@
 // Rows that are repaired once arcs are withdrawn.
-ghost use Rattle.std.specs.Prelude.{◌≡◌, ℕ, ◌+◌, ◌*◌, ◌≤◌, Bool, true, length};
+ghost use Rattle.std.specs.Prelude.{◌≡◌, ℕ, ◌+◌, ◌*◌, ◌≤◌, Bool, false, true, length};
 ghost use Rattle.problem_model.specs.Parents.{IsRow};
-ghost use Rattle.withdrawals.specs.Withdrawals.{flagged_sum};
+ghost use Rattle.withdrawals.specs.Withdrawals.{flagged_sum, flagged_count, LeavesFrom};
 ghost use Rattle.sync_graph.specs.Graph.{GraphLists, reaching, departing};
 ghost use Rattle.withdrawals.specs.Regrowths.{IsAffectedIn};
-ghost use Rattle.row_pool.specs.Row.{cells_of};
+ghost use Rattle.row_pool.specs.Row.{cell_at, cells_of};
 ghost use Rattle.earliest.specs.Values.{IsEarliestOf};
 ghost use Rattle.distances.specs.declared.side.Side.TheVariants.{From};
 ghost use Rattle.distances.specs.Facing.{opposite, facing};
@@ -57,7 +57,8 @@ impl<'a> Withdrawal<'a> {
 /// place for each node. It takes no memory.
 ///
 /// A node is affected where its path by parents had an arc that equals one of those removed. There are at most two steps
-/// and, for each affected node, five and two for each arc in force that reaches or leaves it.
+/// and, for each affected node, five and two for each arc in force that reaches or leaves it. No cell but those of
+/// affected nodes is changed, and no more places of `found` than there are of these.
 pub fn withdraw_row<L: Ledger>(
     withdrawal: &Withdrawal,
     p: u32,
@@ -76,8 +77,13 @@ pub fn withdraw_row<L: Ledger>(
     ensures queue { queue.new ≡ queue.old }
     ensures steps { (affected : ℕ → Bool) → ((k : ℕ) → IsAffectedIn (table withdrawal.now.search) (IsRemoved withdrawal.now.search.graph withdrawal.now.removed.now) p (cells_of row.old) k → affected k ≡ true)
         → steps.new ≤ steps.old + flagged_sum (nodes withdrawal.now.search) (λ k. 2 * (reaching withdrawal.now.search.graph k + departing withdrawal.now.search.graph k) + 5) affected + 2 }
+    ensures places { (affected : ℕ → Bool) → ((k : ℕ) → IsAffectedIn (table withdrawal.now.search) (IsRemoved withdrawal.now.search.graph withdrawal.now.removed.now) p (cells_of row.old) k → affected k ≡ true)
+        → LeavesFrom (flagged_count (nodes withdrawal.now.search) affected) found.old found.new }
+    ensures others { (affected : ℕ → Bool) → ((k : ℕ) → IsAffectedIn (table withdrawal.now.search) (IsRemoved withdrawal.now.search.graph withdrawal.now.removed.now) p (cells_of row.old) k → affected k ≡ true)
+        → (k : ℕ) → affected k ≡ false → cell_at row.new k ≡ cell_at row.old k }
 {
     let search = &withdrawal.search;
+    // It tells that the values are the earliest execution of the graph.
     search.exact();
     let first = clear_heads(search, withdrawal.removed, row, found);
     let count = clear_all(search, row, found, first, steps);

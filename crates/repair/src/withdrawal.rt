@@ -4,7 +4,7 @@ ghost use Rattle.sync_graph.specs.Graph.{table_of};
 ghost use Rattle.distances.specs.Searched.{nodes};
 ghost use Rattle.repair.specs.Slots.{slots_in, HasRows, AreOwn, IsRowsOf, ChangesRowsOf};
 ghost use Rattle.repair.specs.Renewals.{CanRenew};
-ghost use Rattle.repair.specs.Withdrawals.{WereRows, WithdrawsRows, TakesFewToWithdraw};
+ghost use Rattle.repair.specs.Withdrawals.{WereRows, WithdrawsRows, TakesFewToWithdraw, ChangesFewCells, WritesFewPlaces};
 
 use crate::slot::Slot;
 use crate::withdraw::{Withdrawal, withdraw_row};
@@ -29,6 +29,8 @@ fn withdraw_rows<L: Ledger>(
     ensures rows { IsRowsOf (nodes withdrawal.now.search) (table_of withdrawal.now.search.graph) pool.new slot.now }
     ensures changes { ChangesRowsOf (slot.now ∷ []) pool.old pool.new }
     ensures few { TakesFewToWithdraw withdrawal.now.search.graph withdrawal.now.removed.now (slot.now ∷ []) pool.old steps.old steps.new }
+    ensures cells { ChangesFewCells withdrawal.now.search.graph withdrawal.now.removed.now (slot.now ∷ []) pool.old pool.new }
+    ensures places { WritesFewPlaces withdrawal.now.search.graph withdrawal.now.removed.now (slot.now ∷ []) pool.old found.old found.new }
     ensures queue { queue.new ≡ queue.old }
 {
     let _width = pool.width();
@@ -52,7 +54,7 @@ pub fn withdraw_all<L: Ledger>(
     requires before { WereRows withdrawal.now.search.graph withdrawal.now.removed.now pool.old (slots_in entries.now) }
     requires can { CanRenew withdrawal.now.search pool.old queue.old }
     requires found { nodes withdrawal.now.search ≤ length found.old }
-    ensures withdraws { WithdrawsRows withdrawal.now.search.graph withdrawal.now.removed.now (slots_in entries.now) pool.old pool.new steps.old steps.new }
+    ensures withdraws { WithdrawsRows withdrawal.now.search.graph withdrawal.now.removed.now (slots_in entries.now) pool.old pool.new found.old found.new steps.old steps.new }
     ensures queue { queue.new ≡ queue.old }
 {
     for entry in entries {

@@ -10,7 +10,7 @@ use Rattle.problem_model.specs.Sums.{is_changed, changed_sum}
 use Rattle.problem_model.proofs.Sums.{lt_false}
 use Rattle.withdrawals.specs.Withdrawals.{flagged_sum}
 use Rattle.withdrawals.proofs.Sums.{flagged_below, flagged_both}
-use Rattle.withdrawals.specs.Regrowths.{earlier, IsShrunk, IsAffectedIn, IsCleared, AreMarksIn, IsRemnant}
+use Rattle.withdrawals.specs.Regrowths.{earlier, IsShrunk, IsAffectedIn, IsSameAs, IsCleared, AreMarksIn, IsRemnant}
 use Rattle.withdrawals.proofs.Regrown.{regrown_row}
 
 unchanged_same : (a b : ℤ) (h k : Bool) → a ≡ b → h ≡ k → ((int_lt a b || int_lt b a) || (if h then not k else k)) ≡ false
@@ -67,6 +67,13 @@ module _ (nodes : ℕ) (table : ArcTable) (was : ℕ → Bool) (removed : ℕ �
     changed_marked k h = elim (u.relaxing.each k) [
       | inl q ↦ absurd (let f : is_changed old c k ≡ false = unchanged_same (c.value k) (old.value k) (c.known k) (old.known k) q.value q.known in let z : ⊥ = cc in z)
       | inr t ↦ touched_marked k t.known t.fresh
+    ]
+
+    -- and one that is not marked is that of the row
+    pub unmarked_same : (k : ℕ) → marked k ≡ false → IsSameAs row c k
+    unmarked_same k f = elim (u.relaxing.each k) [
+      | inl q ↦ (let b : IsSameAs row old k = d.kept k f in (q.known ∙ b.0, q.value ∙ b.1, q.parent ∙ b.2))
+      | inr t ↦ absurd (let m : marked k ≡ true = touched_marked k t.known t.fresh in let z : ⊥ = cc in z)
     ]
 
     pub changed_within : (each : ℕ → ℕ) → changed_sum nodes each old c ≤ flagged_sum nodes each marked

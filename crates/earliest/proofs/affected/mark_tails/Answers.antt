@@ -1,6 +1,7 @@
 use Rattle.std.proofs.Common.{◌≤◌, ◌+◌, ◌∙◌, refl, sym, subst, length, arith}
 use Rattle.sync_graph.specs.Graph.{IsSound}
 use Rattle.sync_graph.specs.Lists.{list_at}
+use Rattle.withdrawals.proofs.Places.{leaves_then}
 use Rattle.earliest.specs.Withdrawn.{found_at}
 use Rattle.earliest.proofs.Waiting.{past_end, list_short}
 use Rattle.earliest.proofs.Bounds.{sound_arc}
@@ -63,6 +64,7 @@ loop-arc-preserved g c =
           (sym c.arriving.ensures.entry ∙ c.in-Some.is) c.arc-a.ensures before gone c.args.so_far.done (c.loop-arc.invariant.marking before gone i) (c.loop-arc.invariant.keeps (found_at c.args.found.now c.args.so_far.done) (f.2.marking.marked c.args.so_far.done c.requires.next)) c.mark_tail-count.ensures.marked;
       keeps = λ k w. on.keeps k (c.loop-arc.invariant.keeps k w);
       before = λ i l. on.before i (omega (arith, c.loop-arc.invariant.more)) ∙ c.loop-arc.invariant.before i l;
+      places = leaves_then c.args.found.now c.loop-arc.found c.mark_tail-count.new.found c.loop-arc.count c.mark_tail-count.result on.more c.loop-arc.invariant.places on.places;
       more = omega (arith, on.more, c.loop-arc.invariant.more);
       here = tail_here c.args.g.now c.exact.ensures (found_at c.args.found.now c.args.so_far.done) c.loop-arc.k c.in-Some.arc c.arc-a.result c.args.values.now c.loop-arc.front c.mark_tail-count.new.front c.loop-arc.found c.mark_tail-count.new.found c.loop-arc.count c.mark_tail-count.result
           (sym c.arriving.ensures.entry ∙ c.in-Some.is) c.arc-a.ensures f.0 f.1 c.args.so_far.done m c.mark_tail-count.ensures.marked c.loop-arc.invariant.here;

@@ -1,4 +1,5 @@
 use Rattle.std.proofs.Common.{◌+◌, ◌<◌, ◌≤◌, refl, length, arith}
+use Rattle.withdrawals.proofs.Places.{leaves_then}
 use Rattle.earliest.proofs.Affecting.{mark_cost}
 use Rattle.repair.specs.Pulling.{onward}
 use Rattle.repair.proofs.Clearing.{next_found}
@@ -7,6 +8,8 @@ use Rattle.repair.proofs.affected.clear_all.Goals as goal
 pub loop-done-init : goal.loop-done-init
 loop-done-init g c = record {
   marking = λ gone was p old marked r m. (marked, m, λ k w. w);
+  places = λ i l. refl;
+  more = omega arith;
   below = omega arith;
   blank = λ b. b;
   steps = omega arith;
@@ -34,6 +37,8 @@ loop-done-preserved g c = record {
       let m = c.loop-done.invariant.marking gone was p old marked r i in
       let n = c.clear_children-count.ensures.marking gone was p old m.0 c.loop-done.done r m.1 c.loop-done-test.true refl in
       (n.0, n.1, λ k w. n.2 k (m.2 k w));
+  places = leaves_then c.args.found.now c.loop-done.found c.clear_children-count.new.found c.loop-done.count c.clear_children-count.result c.clear_children-count.ensures.more c.loop-done.invariant.places c.clear_children-count.ensures.places;
+  more = (let l : c.loop-done.count ≤ c.clear_children-count.result = c.clear_children-count.ensures.more in omega (arith, c.loop-done.invariant.more));
   below = (let l : c.loop-done.count ≤ c.clear_children-count.result = c.clear_children-count.ensures.more in omega (arith, c.loop-done-test.true));
   blank = λ b. c.clear_children-count.ensures.blank (c.loop-done.invariant.blank b);
   steps = mark_cost (λ n. onward c.args.search.now.side c.args.search.now.graph n + 1) c.loop-done.found c.clear_children-count.new.found c.loop-done.count c.loop-done.done c.args.steps.now c.loop-done.steps c.clear_children-count.new.steps

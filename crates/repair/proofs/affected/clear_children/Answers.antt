@@ -1,18 +1,20 @@
 use Rattle.std.proofs.Common.{◌<◌, ◌≤◌, ◌∙◌, sym, refl, length, arith}
 use Rattle.std.proofs.lemmas.Option.{slice_get_within}
 use Rattle.sync_graph.specs.Lists.{list_at}
+use Rattle.withdrawals.proofs.Places.{leaves_then}
 use Rattle.earliest.proofs.Waiting.{past_end}
 use Rattle.distances.specs.Facing.{followed}
 use Rattle.distances.proofs.Directions.{followed_short}
 use Rattle.distances.specs.Searched.{lists}
 use Rattle.repair.specs.Clearings.{IsChildBy}
-use Rattle.repair.proofs.Clearing.{head_within, head_place, seen_more, cleared_lengths, blank_cleared, few_marked, seen_all, listed_below}
+use Rattle.repair.proofs.Clearing.{head_within, head_place, seen_more, cleared_lengths, cleared_places, blank_cleared, few_marked, seen_all, listed_below}
 use Rattle.repair.proofs.affected.clear_children.Goals as goal
 
 pub loop-arc-init : goal.loop-arc-init
 loop-arc-init g c = record {
   seen = λ gone was p old marked done r m l e. (marked, record { marking = m; keeps = λ x w. w; here = λ m l. absurd (omega arith) });
   before = λ i l. refl;
+  places = λ i l. refl;
   more = omega arith;
   blank = λ b. b;
   within = omega arith;
@@ -54,6 +56,8 @@ loop-arc-preserved g c =
           was gone p old c.loop-arc.row marked s.0 c.loop-arc.found c.loop-arc.count done r s.1 c.clear_child-count.new.row c.clear_child-count.new.found c.clear_child-count.result c.clear_child-count.ensures.cleared
           (omega (arith, c.requires.cells, c.loop-arc.auto.row)) (omega (arith, c.requires.found, c.loop-arc.auto.found)) (c.loop-arc.invariant.before done b ∙ e) (omega (arith, c.loop-arc.invariant.more));
       before = λ i l. n.3 i (omega (arith, c.loop-arc.invariant.more)) ∙ c.loop-arc.invariant.before i l;
+      places = leaves_then c.args.found.now c.loop-arc.found c.clear_child-count.new.found c.loop-arc.count c.clear_child-count.result n.2 c.loop-arc.invariant.places
+          (cleared_places (IsChildBy c.loop-arc.row c.head-head.result c.in-Some.arc) c.loop-arc.row c.clear_child-count.new.row c.loop-arc.found c.clear_child-count.new.found c.loop-arc.count c.head-head.result c.clear_child-count.result c.clear_child-count.ensures.cleared);
       more = omega (arith, n.2, c.loop-arc.invariant.more);
       blank = λ b. blank_cleared (IsChildBy c.loop-arc.row c.head-head.result c.in-Some.arc) c.loop-arc.row c.clear_child-count.new.row c.loop-arc.found c.clear_child-count.new.found c.loop-arc.count c.head-head.result c.clear_child-count.result c.clear_child-count.ensures.cleared (c.loop-arc.invariant.blank b);
       within = (let l : c.loop-arc.k < length (list_at (followed c.args.search.now.side c.args.search.now.graph) c.args.node) =

@@ -1,5 +1,6 @@
 use Rattle.std.proofs.Common.{◌≡◌, ℕ, ◌+◌, ◌-◌, ◌<◌, ◌≤◌, Bool, List}
 use Rattle.problem_model.specs.Parents.{Cells}
+use Rattle.withdrawals.specs.Withdrawals.{LeavesFrom}
 use Rattle.sync_graph.specs.declared.arc.Arc.{Arc}
 use Rattle.earliest.specs.Withdrawn.{found_at}
 use Rattle.distances.specs.Changes.{AreBlank}
@@ -13,6 +14,7 @@ invariant-loop-arc g l = record {
       → IsRowBefore l.search.graph l.search.side was gone p old → IsMarkingOf l.search.graph l.search.side gone p old l.initial.row marked l.initial.found l.first done → done < l.first → found_at l.initial.found done ≡ l.node
       → (marks : ℕ → Bool) × IsSeenOf l.search.graph l.search.side l.node l.k gone p old l.row marked marks l.found l.count done;
   before : (i : ℕ) → i < l.first → found_at l.found i ≡ found_at l.initial.found i;
+  places : LeavesFrom l.count l.initial.found l.found;
   more : l.first ≤ l.count;
   blank : AreBlank l.initial.row → AreBlank l.row;
   within : l.k ≤ onward l.search.side l.search.graph l.node;

@@ -1,13 +1,15 @@
-use Rattle.std.proofs.Common.{◌≤◌, false, length, arith}
+use Rattle.std.proofs.Common.{◌≤◌, false, refl, length, arith}
+use Rattle.withdrawals.proofs.Places.{leaves_then}
 use Rattle.row_pool.specs.Row.{cells_of}
 use Rattle.distances.specs.Facing.{end_of}
 use Rattle.repair.specs.Clearings.{IsChildOf}
-use Rattle.repair.proofs.Clearing.{seeded_none, seed_place, seeded_more, seeded_all, cleared_lengths, blank_cleared, few_marked}
+use Rattle.repair.proofs.Clearing.{seeded_none, seed_place, seeded_more, seeded_all, cleared_lengths, cleared_places, blank_cleared, few_marked}
 use Rattle.repair.proofs.affected.clear_heads.Goals as goal
 
 pub loop-i-init : goal.loop-i-init
 loop-i-init c = record {
   seeded = λ was p r. ((λ _. false), seeded_none c.args.search.now.graph c.args.search.now.side c.args.removed.now p c.args.row.now c.args.found.now);
+  places = λ i l. refl;
   blank = λ b. b;
 }
 
@@ -34,6 +36,8 @@ loop-i-preserved c =
           seeded_more c.args.search.now.graph c.exact.ensures.graph c.args.search.now.side c.args.removed.now c.loop-i.i c.index-removed-i.result c.loop-i-test.true c.index-removed-i.is
           was p (cells_of c.args.row.now) c.loop-i.row s.0 c.loop-i.found c.loop-i.count r s.1 c.clear_head-count.new.row c.clear_head-count.new.found c.clear_head-count.result c.clear_head-count.ensures.cleared
           (omega (arith, c.requires.cells, c.loop-i.auto.row)) (omega (arith, c.requires.found, c.loop-i.auto.found));
+      places = leaves_then c.args.found.now c.loop-i.found c.clear_head-count.new.found c.loop-i.count c.clear_head-count.result n.2 c.loop-i.invariant.places
+          (cleared_places (IsChildOf c.args.search.now.graph c.loop-i.row (end_of c.args.search.now.side c.index-removed-i.result) c.index-removed-i.result) c.loop-i.row c.clear_head-count.new.row c.loop-i.found c.clear_head-count.new.found c.loop-i.count (end_of c.args.search.now.side c.index-removed-i.result) c.clear_head-count.result c.clear_head-count.ensures.cleared);
       blank = λ b. blank_cleared (IsChildOf c.args.search.now.graph c.loop-i.row (end_of c.args.search.now.side c.index-removed-i.result) c.index-removed-i.result) c.loop-i.row c.clear_head-count.new.row c.loop-i.found c.clear_head-count.new.found c.loop-i.count (end_of c.args.search.now.side c.index-removed-i.result) c.clear_head-count.result c.clear_head-count.ensures.cleared (c.loop-i.invariant.blank b);
     }
 

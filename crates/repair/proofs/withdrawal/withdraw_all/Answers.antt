@@ -31,30 +31,30 @@ loop-entry-preserved g c =
           let slot : Slot = w.in-Some.slot in
           let next = next_slot c.loop-entry.entry-index c.args.entries.now c.entry-item.result slot c.loop-entry-test.true c.entry-item.is w.in-Some.is in
           let own : AreOwn c.loop-entry.pool (slot ∷ rest) = subst (AreOwn c.loop-entry.pool) next c.loop-entry.invariant.own in
-          rw w.pool-is (rw w.queue-is (rw w.steps-is (record {
+          rw w.pool-is (rw w.found-is (rw w.queue-is (rw w.steps-is (record {
             own = own_rest slot rest c.loop-entry.pool w.withdraw_rows.new.pool own w.withdraw_rows.ensures.changes;
             before = were_rest c.args.withdrawal.now.search.graph c.args.withdrawal.now.removed.now slot rest c.loop-entry.pool w.withdraw_rows.new.pool own w.withdraw_rows.ensures.changes
                 (subst (WereRows c.args.withdrawal.now.search.graph c.args.withdrawal.now.removed.now c.loop-entry.pool) next c.loop-entry.invariant.before);
-            goes = λ new after then. c.loop-entry.invariant.goes new after (subst (λ (xs : List Slot). WithdrawsRows c.args.withdrawal.now.search.graph c.args.withdrawal.now.removed.now xs c.loop-entry.pool new c.loop-entry.steps after) (sym next)
-                (withdraws_more c.args.withdrawal.now.search.graph c.args.withdrawal.now.removed.now slot rest c.loop-entry.pool w.withdraw_rows.new.pool new c.loop-entry.steps w.withdraw_rows.new.steps after own
-                w.withdraw_rows.ensures.rows w.withdraw_rows.ensures.changes w.withdraw_rows.ensures.few then));
+            goes = λ new last after then. c.loop-entry.invariant.goes new last after (subst (λ (xs : List Slot). WithdrawsRows c.args.withdrawal.now.search.graph c.args.withdrawal.now.removed.now xs c.loop-entry.pool new c.loop-entry.found last c.loop-entry.steps after) (sym next)
+                (withdraws_more c.args.withdrawal.now.search.graph c.args.withdrawal.now.removed.now slot rest c.loop-entry.pool w.withdraw_rows.new.pool new c.loop-entry.found w.withdraw_rows.new.found last c.loop-entry.steps w.withdraw_rows.new.steps after own
+                w.withdraw_rows.ensures.rows w.withdraw_rows.ensures.changes w.withdraw_rows.ensures.few w.withdraw_rows.ensures.cells w.withdraw_rows.ensures.places then));
             width = w.withdraw_rows.ensures.changes.width ∙ c.loop-entry.invariant.width;
             queue = w.withdraw_rows.ensures.queue ∙ c.loop-entry.invariant.queue;
-          })))
+          }))))
       | in_default w ↦
           let pass = pass_none c.loop-entry.entry-index c.args.entries.now c.entry-item.result c.loop-entry-test.true c.entry-item.is w.in_default.is in
-          rw w.pool-is (rw w.queue-is (rw w.steps-is (record {
+          rw w.pool-is (rw w.found-is (rw w.queue-is (rw w.steps-is (record {
             own = subst (AreOwn c.loop-entry.pool) pass c.loop-entry.invariant.own;
             before = subst (WereRows c.args.withdrawal.now.search.graph c.args.withdrawal.now.removed.now c.loop-entry.pool) pass c.loop-entry.invariant.before;
-            goes = λ new after then. c.loop-entry.invariant.goes new after (subst (λ (xs : List Slot). WithdrawsRows c.args.withdrawal.now.search.graph c.args.withdrawal.now.removed.now xs c.loop-entry.pool new c.loop-entry.steps after) (sym pass) then);
+            goes = λ new last after then. c.loop-entry.invariant.goes new last after (subst (λ (xs : List Slot). WithdrawsRows c.args.withdrawal.now.search.graph c.args.withdrawal.now.removed.now xs c.loop-entry.pool new c.loop-entry.found last c.loop-entry.steps after) (sym pass) then);
             width = c.loop-entry.invariant.width;
             queue = c.loop-entry.invariant.queue;
-          })))
+          }))))
     ]
 
 pub returns-clause-withdraws : goal.returns-clause-withdraws
 returns-clause-withdraws g c =
     let past : length c.args.entries.now ≤ c.loop-entry.entry-index = omega (arith, c.loop-entry-test.false) in
-    c.loop-entry.invariant.goes c.loop-entry.pool c.loop-entry.steps
-    (subst (λ (xs : List Slot). WithdrawsRows c.args.withdrawal.now.search.graph c.args.withdrawal.now.removed.now xs c.loop-entry.pool c.loop-entry.pool c.loop-entry.steps c.loop-entry.steps) (sym (none_left c.loop-entry.entry-index c.args.entries.now past))
-    (withdraws_none c.args.withdrawal.now.search.graph c.args.withdrawal.now.removed.now c.loop-entry.pool c.loop-entry.steps))
+    c.loop-entry.invariant.goes c.loop-entry.pool c.loop-entry.found c.loop-entry.steps
+    (subst (λ (xs : List Slot). WithdrawsRows c.args.withdrawal.now.search.graph c.args.withdrawal.now.removed.now xs c.loop-entry.pool c.loop-entry.pool c.loop-entry.found c.loop-entry.found c.loop-entry.steps c.loop-entry.steps) (sym (none_left c.loop-entry.entry-index c.args.entries.now past))
+    (withdraws_none c.args.withdrawal.now.search.graph c.args.withdrawal.now.removed.now c.loop-entry.pool c.loop-entry.found c.loop-entry.steps))

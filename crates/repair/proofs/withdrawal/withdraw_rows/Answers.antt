@@ -1,5 +1,5 @@
 use Rattle.std.proofs.Common.{ℕ, ◌≤◌, ◌∷◌, [], List, length, sum_by, sym, subst, ◌∙◌, arith}
-use Rattle.std.proofs.lemmas.List.Elements.{All-head}
+use Rattle.std.proofs.lemmas.List.Elements.{All-nil, All-cons, All-head}
 use Rattle.problem_model.specs.Parents.{IsRow}
 use Rattle.problem_model.specs.Tables.{reversed_table}
 use Rattle.sync_graph.specs.Graph.{table_of}
@@ -12,11 +12,11 @@ use Rattle.distances.specs.Searched.{nodes}
 use Rattle.distances.specs.Changes.{AreBlank}
 use Rattle.repair.specs.declared.slot.Slot.{Slot}
 use Rattle.repair.specs.Slots.{IsRowsOf}
-use Rattle.repair.specs.Withdrawals.{MarksAffected, withdrawal_steps}
+use Rattle.repair.specs.Withdrawals.{MarksAffected, AreMarkedAtMost, LeavesCells, withdrawal_steps}
 use Rattle.repair.proofs.Renewing.{steps_of_one}
 use Rattle.repair.proofs.Withdrawing.{few_rows}
-use Rattle.repair.proofs.Turning.{from_row, from_few, back_nodes, back_side, back_row, back_withdrawn, back_few}
-use Rattle.repair.proofs.Writing.{taken_still, other_still, changes_both, made_rows}
+use Rattle.repair.proofs.Turning.{from_row, from_few, from_places, from_cells, back_nodes, back_side, back_row, back_withdrawn, back_few, back_places, back_cells}
+use Rattle.repair.proofs.Writing.{taken_still, other_still, changes_both, leaves_both, made_rows}
 use Rattle.repair.proofs.withdrawal.withdraw_rows.Goals as goal
 
 pub withdraw_row-requires-clause-before : goal.withdraw_row-requires-clause-before
@@ -100,3 +100,28 @@ returns-clause-few g c = λ marks all.
     (from (marks slot.from) (λ k affected. m.from k (subst (λ (cs : List Cell). IsAffectedFrom c.args.withdrawal.now.search.graph c.args.withdrawal.now.removed.now slot.node cs k) c.row_mut-from.ensures.value affected)))
     (to (marks slot.to) (λ k affected. m.to k (subst (λ (cs : List Cell). IsAffectedTo c.args.withdrawal.now.search.graph c.args.withdrawal.now.removed.now slot.node cs k) same affected)))
     (steps_of_one (withdrawal_steps c.args.withdrawal.now.search.graph marks) slot)
+
+pub returns-clause-places : goal.returns-clause-places
+returns-clause-places g c = λ marks most all at i l.
+    let slot : Slot = c.args.slot.now in
+    let m : MarksAffected c.args.withdrawal.now.search.graph c.args.withdrawal.now.removed.now c.args.pool.now marks slot = All-head (MarksAffected c.args.withdrawal.now.search.graph c.args.withdrawal.now.removed.now c.args.pool.now marks) slot [] all in
+    let few : AreMarkedAtMost c.args.withdrawal.now.search.graph marks most slot = All-head (AreMarkedAtMost c.args.withdrawal.now.search.graph marks most) slot [] at in
+    let same = c.row_mut-to.ensures.value ∙ other_still c.args.pool.now c.args.slot.now c.width-width.ensures.lawful c.requires.has c.withdraw_row.new.row (c.withdraw_row.auto.row ∙ c.row_mut-from.ensures.width) in
+    let from = from_places c.args.withdrawal.now.search c.requires.can.outward c.args.withdrawal.now.removed.now slot.node c.row_mut-from.result.now c.args.found.now c.withdraw_row.new.found c.withdraw_row.ensures.places in
+    let to = back_places c.args.withdrawal.now.search c.requires.can.outward c.turned-back.result.search c.turned-back.ensures.search c.args.withdrawal.now.removed.now c.turned-back.result.removed.now slot.node c.row_mut-to.result.now c.withdraw_row.new.found c.withdraw_row-2.new.found c.turned-back.ensures.removed c.withdraw_row-2.ensures.places in
+    to (marks slot.to) (λ k affected. m.to k (subst (λ (cs : List Cell). IsAffectedTo c.args.withdrawal.now.search.graph c.args.withdrawal.now.removed.now slot.node cs k) same affected)) i (omega (arith, few.to, l))
+    ∙ from (marks slot.from) (λ k affected. m.from k (subst (λ (cs : List Cell). IsAffectedFrom c.args.withdrawal.now.search.graph c.args.withdrawal.now.removed.now slot.node cs k) c.row_mut-from.ensures.value affected)) i (omega (arith, few.from, l))
+
+pub returns-clause-cells : goal.returns-clause-cells
+returns-clause-cells g c = λ marks all.
+    let slot : Slot = c.args.slot.now in
+    let m : MarksAffected c.args.withdrawal.now.search.graph c.args.withdrawal.now.removed.now c.args.pool.now marks slot = All-head (MarksAffected c.args.withdrawal.now.search.graph c.args.withdrawal.now.removed.now c.args.pool.now marks) slot [] all in
+    let same = c.row_mut-to.ensures.value ∙ other_still c.args.pool.now c.args.slot.now c.width-width.ensures.lawful c.requires.has c.withdraw_row.new.row (c.withdraw_row.auto.row ∙ c.row_mut-from.ensures.width) in
+    let from = from_cells c.args.withdrawal.now.search c.requires.can.outward c.args.withdrawal.now.removed.now slot.node c.row_mut-from.result.now c.withdraw_row.new.row c.withdraw_row.ensures.others in
+    let to = back_cells c.args.withdrawal.now.search c.requires.can.outward c.turned-back.result.search c.turned-back.ensures.search c.args.withdrawal.now.removed.now c.turned-back.result.removed.now slot.node c.row_mut-to.result.now c.withdraw_row-2.new.row c.turned-back.ensures.removed c.withdraw_row-2.ensures.others in
+    All-cons (LeavesCells marks c.args.pool.now _) slot []
+    (leaves_both c.args.pool.now c.args.slot.now c.width-width.ensures.lawful c.requires.has c.withdraw_row.new.row (c.withdraw_row.auto.row ∙ c.row_mut-from.ensures.width)
+    c.withdraw_row-2.new.row (c.withdraw_row-2.auto.row ∙ c.row_mut-to.ensures.width) marks c.row_mut-from.result.now c.row_mut-to.result.now c.row_mut-from.ensures.value same
+    (from (marks slot.from) (λ k affected. m.from k (subst (λ (cs : List Cell). IsAffectedFrom c.args.withdrawal.now.search.graph c.args.withdrawal.now.removed.now slot.node cs k) c.row_mut-from.ensures.value affected)))
+    (to (marks slot.to) (λ k affected. m.to k (subst (λ (cs : List Cell). IsAffectedTo c.args.withdrawal.now.search.graph c.args.withdrawal.now.removed.now slot.node cs k) same affected))))
+    (All-nil (LeavesCells marks c.args.pool.now _))

@@ -28,7 +28,7 @@ invariant_of-self g c = (
 
 pub returns-clause-takes : goal.returns-clause-takes
 returns-clause-takes g c =
-    let made : List Slot → KeptRows = λ xs. record { slots = xs; source = c.self.inside.source; present = c.self.inside.present; room = c.self.inside.room } in (
+    let made : List Slot → KeptRows = λ xs. record { slots = xs; source = c.self.inside.source; present = c.self.inside.present; room = c.self.inside.room; found = c.self.inside.found.items } in (
       c.new_slot-slot.result,
       c.new_slot-slot.ensures.node,
       ap (λ (xs : List (Option Slot)). made (slots_in xs)) c.push.ensures.items ∙ ap made (slots_push c.self.inside.slots.items c.new_slot-slot.result)
