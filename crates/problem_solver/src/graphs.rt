@@ -45,6 +45,7 @@ fn bring_in<L: Ledger>(
     requires one_each { length e.old.values ≡ length g.now.nodes }
     ensures { IfOk result (λ found. IsInserted g.now e.new found) }
 {
+    // It tells what the lists of the graph hold.
     g.exact();
     let mut queue = IdleQueue::with_room(alloc, g.nodes())?;
     e.rebuild_in_order(g, order, &mut queue, steps)

@@ -23,6 +23,7 @@ fn node_of_reading(p: &Problem, place: u32) -> u32
     ensures node { result ≡ length p.now.events + place }
     ensures few { result < 2 ^ 31 }
 {
+    // It tells what the readings of the problem are.
     let _ = p.readings();
     p.events().len() as u32 + place
 }
@@ -89,6 +90,7 @@ fn arcs_of_message(p: &Problem, message: &Message) -> Arcs
     ensures { (readings : List Reading) → AreReadings p.now readings
         → AreBoundsAmong p.now (nodes_of p.now readings) (message_bounds message.now) (arcs_in result) }
 {
+    // It tells that the problem is lawful.
     let _ = p.events();
     message_arcs(message, message.send, message.receive)
 }

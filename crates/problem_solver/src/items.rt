@@ -107,6 +107,7 @@ fn push_spans(
     requires ranks { length ranks.now ≡ length readings.now }
     ensures { OnOk result (AreItems p.now readings.now (length readings.now - 1) 0 0 0 (items_of items.new.items)) }
 {
+    // It tells that the problem is lawful.
     let _ = p.events();
     let last = readings.len().saturating_sub(1);
     for place in 0..last {

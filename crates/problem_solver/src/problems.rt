@@ -33,6 +33,7 @@ fn start(alloc: Global, p: &Problem, rows: u32) -> Result<Solver, AllocError>
     ensures slots { IfOk result (λ s. s.kept.slots ≡ []) }
     ensures source { IfOk result (λ s. s.kept.source ≡ None) }
 {
+    // It tells that the problem is lawful.
     let _ = p.events();
     let readings = p.readings();
     let mut s = Solver::new(alloc);
@@ -60,6 +61,7 @@ pub fn solve<L: Ledger>(
     ensures slots { IfOk result (λ s. s.kept.slots ≡ []) }
     ensures source { IfOk result (λ s. s.kept.source ≡ None) }
 {
+    // It tells that the problem is lawful.
     let _ = p.events();
     let readings = p.readings();
     let items = ordered_items(alloc, p, readings, steps)?;

@@ -25,7 +25,7 @@ use Rattle.session_answers.specs.declared.answers.Answers.{Answers}
 use Rattle.replies.specs.declared.refusal.Refusal.TheVariants.{NoSourceTime}
 use Rattle.replies.specs.Refusals.{refusal_line}
 use Rattle.replies.specs.Reply.{OfOne, OfTwo, IsTimeReply}
-use Rattle.session_answers.specs.Ready.{AreSlotsOf, AreAnswersOf, KeepsSource, HasSpareRows, answers_problem}
+use Rattle.session_answers.specs.Ready.{AreSlotsOf, AreAnswersOf, KeepsSource, HasSpareRows, answers_problem, declared}
 use Rattle.session_answers.specs.Keeping.{IsCalled, HasSlotBy}
 use Rattle.session_answers.proofs.Engines.{kept_stays}
 use Rattle.replies.proofs.Elements.{some_same}
@@ -57,7 +57,7 @@ answers_left seen kept a s is leaves = record {
   graph = kept_stays seen a.graph.roster a.graph.solver s leaves.answer leaves.current is.graph;
   ends = is.ends;
   slots = subst (λ (k : KeptRows). AreSlotsOf a.graph.roster kept k.slots) (sym leaves.kept) is.slots;
-  source_slot = keeps_source (listed a.graph.roster) (answers_problem a seen) a.graph.roster.declaration.source a.source a.graph.solver s leaves.kept is.source_slot;
+  source_slot = keeps_source (listed a.graph.roster) (answers_problem a seen) (declared a).source a.source a.graph.solver s leaves.kept is.source_slot;
   rows = spare_left a.graph.solver s leaves.kept leaves.rows is.rows;
 }
 

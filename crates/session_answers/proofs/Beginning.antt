@@ -19,7 +19,7 @@ use Rattle.session_graph.specs.Kept.{IsKeptFor}
 use Rattle.problem.specs.Listing.{Listed}
 use Rattle.queries.specs.Replies.{HasReading}
 use Rattle.session_answers.specs.declared.answers.Answers.{Answers}
-use Rattle.session_answers.specs.Ready.{AreAnswersOf, HasSpareRows, KeepsSource, answers_problem}
+use Rattle.session_answers.specs.Ready.{AreAnswersOf, HasSpareRows, KeepsSource, answers_problem, declared}
 use Rattle.session_answers.proofs.KeptNext.{grown_free, grown_long}
 use Rattle.session_answers.proofs.Slotting.{no_slots}
 
@@ -64,17 +64,17 @@ first_rows old new none slots source pool =
     (omega (arith, long, empty, few), omega (arith, long, free, empty, all))
 
 -- the solver over no node holds the answer where nothing was added
-pub first_stands : (a : Answers) (old : SolverLists) → IsRoster a.graph.roster → IsKeptFor (map (λ (l : Label). []) a.graph.roster.declaration.labels) a.graph.roster a.graph.solver →
-    AreEndsBy (map id_of a.graph.roster.came) a.graph.matcher (map (λ (l : Label). []) a.graph.roster.declaration.labels) → a.graph.solver.kept.slots ≡ [] → a.graph.solver.kept.source ≡ None → old.pool.rows ≡ [] → a.graph.solver.pool ≡ grown old.pool 4 0 → a.source ≡ None →
-    AreAnswersOf (map (λ (l : Label). []) a.graph.roster.declaration.labels) [] a
+pub first_stands : (a : Answers) (old : SolverLists) → IsRoster a.graph.roster → IsKeptFor (map (λ (l : Label). []) (declared a).labels) a.graph.roster a.graph.solver →
+    AreEndsBy (map id_of a.graph.roster.came) a.graph.matcher (map (λ (l : Label). []) (declared a).labels) → a.graph.solver.kept.slots ≡ [] → a.graph.solver.kept.source ≡ None → old.pool.rows ≡ [] → a.graph.solver.pool ≡ grown old.pool 4 0 → a.source ≡ None →
+    AreAnswersOf (map (λ (l : Label). []) (declared a).labels) [] a
 first_stands a old lawful kept ends slots source none pool stamp =
-    let nothing = nothing_for a.graph.roster.declaration.labels in
+    let nothing = nothing_for (declared a).labels in
     record {
       lawful = lawful;
       graph = kept;
       ends = ends;
       slots = no_slots a.graph.roster a.graph.solver.kept.slots slots;
-      source_slot = subst (λ (x : Option ℕ). KeepsSource (listed a.graph.roster) (answers_problem a (map (λ (l : Label). []) a.graph.roster.declaration.labels)) a.graph.roster.declaration.source x a.graph.solver) (sym stamp)
-          (no_source (listed a.graph.roster) a.graph.roster.declaration (map (λ (l : Label). []) a.graph.roster.declaration.labels) a.graph.roster.declaration.source a.graph.solver nothing source);
+      source_slot = subst (λ (x : Option ℕ). KeepsSource (listed a.graph.roster) (answers_problem a (map (λ (l : Label). []) (declared a).labels)) (declared a).source x a.graph.solver) (sym stamp)
+          (no_source (listed a.graph.roster) (declared a) (map (λ (l : Label). []) (declared a).labels) (declared a).source a.graph.solver nothing source);
       rows = first_rows old a.graph.solver none slots source pool;
     }

@@ -21,7 +21,7 @@ use Rattle.roster.specs.Roster.{IsRoster, id_of, listed}
 use Rattle.solver.specs.Solver.{SolverLists}
 use Rattle.session_graph.specs.Kept.{IsKeptFor, KeepsEvents, KeepsRows, KeepsReadings}
 use Rattle.session_answers.specs.declared.answers.Answers.{Answers}
-use Rattle.session_answers.specs.Ready.{AreAnswersOf, AreSlotsOf, KeepsSource, answers_problem}
+use Rattle.session_answers.specs.Ready.{AreAnswersOf, AreSlotsOf, KeepsSource, answers_problem, declared}
 use Rattle.queries.specs.Replies.{HasReading}
 use Rattle.session_answers.specs.Keeping.{BringsEvents, AreAnswersBut, KeepsSourceBut, TakesForSource, clock_at}
 use Rattle.session_answers.proofs.Engines.{kept_stays, spare_kept, source_so_far, source_spare, source_whole, source_other, source_slotless}
@@ -98,9 +98,9 @@ module _ (accepted : List Accepted) (before : List (List Seen)) (k more : ℕ) (
       let all : event_count before + more ≤ most_events = subst (λ (m : ℕ). m ≤ most_events) count few in
       subst (λ (m : ℕ). m + n ≤ most_events) (sym came) (subst (λ (m : ℕ). event_count before + m ≤ most_events) (sym same) all)
 
-  pub label_inside : (kept : List EventId) (a : Answers) → AreAnswersOf before kept a → k < length a.graph.roster.declaration.labels
+  pub label_inside : (kept : List EventId) (a : Answers) → AreAnswersOf before kept a → k < length (declared a).labels
   label_inside kept a are =
-      let each : length before ≡ length a.graph.roster.declaration.labels = labels_are a.graph.roster are.lawful before are.graph.holds in
+      let each : length before ≡ length (declared a).labels = labels_are a.graph.roster are.lawful before are.graph.holds in
       let below = inside in
       omega (arith, each, below)
 
@@ -117,17 +117,17 @@ reads_then d before after k more b clock has = reading_before d before k (b.own 
 
 -- ---- the answers then
 pub so_far : (label : ℕ) (before : List (List Seen)) (after : List (List Seen)) (kept : List EventId) (a new : Answers) → AreAnswersOf before kept a → IsRoster new.graph.roster → IsKeptFor after new.graph.roster new.graph.solver →
-    AreEndsBy (map id_of new.graph.roster.came) new.graph.matcher after → new.graph.roster.declaration ≡ a.graph.roster.declaration → KeepsEvents a.graph.roster new.graph.roster → KeepsReadings a.graph.roster new.graph.roster → KeepsRows a.graph.solver new.graph.solver → new.source ≡ a.source →
-    ((clock : ℕ) → HasReading (answers_problem a after) clock → HasReading (answers_problem a before) clock ⊎ (clock_at a.graph.roster.declaration label ≡ clock)) → AreAnswersBut label after kept new
-so_far label before after kept a new are lawful graph ends declared events readings rows stamp reads = record {
+    AreEndsBy (map id_of new.graph.roster.came) new.graph.matcher after → declared new ≡ declared a → KeepsEvents a.graph.roster new.graph.roster → KeepsReadings a.graph.roster new.graph.roster → KeepsRows a.graph.solver new.graph.solver → new.source ≡ a.source →
+    ((clock : ℕ) → HasReading (answers_problem a after) clock → HasReading (answers_problem a before) clock ⊎ (clock_at (declared a) label ≡ clock)) → AreAnswersBut label after kept new
+so_far label before after kept a new are lawful graph ends same events readings rows stamp reads = record {
   lawful = lawful;
   graph = graph;
   ends = ends;
   slots = subst (λ (xs : List Slot). AreSlotsOf new.graph.roster kept xs) (sym rows.slots) (slots_kept a.graph.roster new.graph.roster kept a.graph.solver.kept.slots events are.slots);
-  source_slot = subst (λ (x : Option ℕ). KeepsSourceBut (clock_at new.graph.roster.declaration label) (listed new.graph.roster) (answers_problem new after) new.graph.roster.declaration.source x new.graph.solver) (sym stamp)
-      (source_so_far a.graph.roster new.graph.roster (answers_problem a before) (answers_problem new after) (clock_at new.graph.roster.declaration label) a.graph.roster.declaration.source new.graph.roster.declaration.source a.source a.graph.solver
-      new.graph.solver readings (ap (λ (d : Declaration). d.source) declared) rows.source
-      (subst (λ (d : Declaration). (clock : ℕ) → HasReading (problem_of_seen d after) clock → HasReading (answers_problem a before) clock ⊎ (clock_at d label ≡ clock)) (sym declared) reads) are.source_slot);
+  source_slot = subst (λ (x : Option ℕ). KeepsSourceBut (clock_at (declared new) label) (listed new.graph.roster) (answers_problem new after) (declared new).source x new.graph.solver) (sym stamp)
+      (source_so_far a.graph.roster new.graph.roster (answers_problem a before) (answers_problem new after) (clock_at (declared new) label) (declared a).source (declared new).source a.source a.graph.solver
+      new.graph.solver readings (ap (λ (d : Declaration). d.source) same) rows.source
+      (subst (λ (d : Declaration). (clock : ℕ) → HasReading (problem_of_seen d after) clock → HasReading (answers_problem a before) clock ⊎ (clock_at d label ≡ clock)) (sym same) reads) are.source_slot);
   rows = spare_kept a.graph.solver new.graph.solver rows are.rows;
 }
 
@@ -137,27 +137,27 @@ some_of None is = absurd cc
 
 module _ (label : ℕ) (seen : List (List Seen)) (kept : List EventId) (a : Answers) (are : AreAnswersBut label seen kept a) where
   abbrev Keeps : Option ℕ → Type 0
-  Keeps stamp = KeepsSourceBut (clock_at a.graph.roster.declaration label) (listed a.graph.roster) (answers_problem a seen) a.graph.roster.declaration.source stamp a.graph.solver
+  Keeps stamp = KeepsSourceBut (clock_at (declared a) label) (listed a.graph.roster) (answers_problem a seen) (declared a).source stamp a.graph.solver
 
-  whole : KeepsSource (listed a.graph.roster) (answers_problem a seen) a.graph.roster.declaration.source a.source a.graph.solver → AreAnswersOf seen kept a
+  whole : KeepsSource (listed a.graph.roster) (answers_problem a seen) (declared a).source a.source a.graph.solver → AreAnswersOf seen kept a
   whole source = record { lawful = are.lawful; graph = are.graph; ends = are.ends; slots = are.slots; source_slot = source; rows = are.rows }
 
   -- nothing is lacking where the source has its stamp
   pub known_source : (stamp : ℕ) → a.source ≡ Some stamp → AreAnswersOf seen kept a
-  known_source stamp is = whole (subst (λ (x : Option ℕ). KeepsSource (listed a.graph.roster) (answers_problem a seen) a.graph.roster.declaration.source x a.graph.solver) (sym is)
-      (source_whole (clock_at a.graph.roster.declaration label) (listed a.graph.roster) (answers_problem a seen) a.graph.roster.declaration.source stamp a.graph.solver (subst Keeps is are.source_slot)))
+  known_source stamp is = whole (subst (λ (x : Option ℕ). KeepsSource (listed a.graph.roster) (answers_problem a seen) (declared a).source x a.graph.solver) (sym is)
+      (source_whole (clock_at (declared a) label) (listed a.graph.roster) (answers_problem a seen) (declared a).source stamp a.graph.solver (subst Keeps is are.source_slot)))
 
   -- nor where it is another clock than the label's
-  pub other_source : a.source ≡ None → (a.graph.roster.declaration.source ≡ Some (clock_at a.graph.roster.declaration label) → ⊥) → AreAnswersOf seen kept a
-  other_source none other = whole (subst (λ (x : Option ℕ). KeepsSource (listed a.graph.roster) (answers_problem a seen) a.graph.roster.declaration.source x a.graph.solver) (sym none)
-      (source_other (clock_at a.graph.roster.declaration label) (listed a.graph.roster) (answers_problem a seen) a.graph.roster.declaration.source a.graph.solver other (subst Keeps none are.source_slot)))
+  pub other_source : a.source ≡ None → ((declared a).source ≡ Some (clock_at (declared a) label) → ⊥) → AreAnswersOf seen kept a
+  other_source none other = whole (subst (λ (x : Option ℕ). KeepsSource (listed a.graph.roster) (answers_problem a seen) (declared a).source x a.graph.solver) (sym none)
+      (source_other (clock_at (declared a) label) (listed a.graph.roster) (answers_problem a seen) (declared a).source a.graph.solver other (subst Keeps none are.source_slot)))
 
   pub no_source_slot : a.source ≡ None → a.graph.solver.kept.source ≡ None
-  no_source_slot none = source_slotless (clock_at a.graph.roster.declaration label) (listed a.graph.roster) (answers_problem a seen) a.graph.roster.declaration.source a.graph.solver (subst Keeps none are.source_slot)
+  no_source_slot none = source_slotless (clock_at (declared a) label) (listed a.graph.roster) (answers_problem a seen) (declared a).source a.graph.solver (subst Keeps none are.source_slot)
 
   -- nor where it was looked for
   pub looked_for : (s : SolverLists) (stamp : Option ℕ) → a.source ≡ None → TakesForSource a.graph.solver s → s.kept.slots ≡ a.graph.solver.kept.slots →
-      KeepsSource (listed a.graph.roster) (answers_problem a seen) a.graph.roster.declaration.source stamp s → AreAnswersOf seen kept (record { graph = record { roster = a.graph.roster; matcher = a.graph.matcher; solver = s }; source = stamp })
+      KeepsSource (listed a.graph.roster) (answers_problem a seen) (declared a).source stamp s → AreAnswersOf seen kept (record { graph = record { roster = a.graph.roster; matcher = a.graph.matcher; solver = s }; source = stamp })
   looked_for s stamp none takes slots source = record {
     lawful = are.lawful;
     graph = graph takes;

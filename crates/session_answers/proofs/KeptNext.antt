@@ -21,7 +21,7 @@ use Rattle.replies.specs.declared.refusal.Refusal.TheVariants.{UnknownEvent}
 use Rattle.replies.specs.Refusals.{refusal_line}
 use Rattle.replies.specs.Outcomes.{outcome_line}
 use Rattle.replies.specs.Reply.{IsPlacedAt, IsAmong, KeepReply, kept_line, AreKept}
-use Rattle.session_answers.specs.Ready.{AreSlotsOf, AreAnswersOf, KeepsSource, answers_problem}
+use Rattle.session_answers.specs.Ready.{AreSlotsOf, AreAnswersOf, KeepsSource, answers_problem, declared}
 use Rattle.session_answers.specs.Keeping.{IsKeptNext, IsCalled}
 use Rattle.problem.proofs.OwnReadings.{own_readings}
 use Rattle.session_answers.proofs.RosterEvents.{event_place, placed_at, called}
@@ -116,7 +116,7 @@ module _ (seen : List (List Seen)) (kept : List EventId) (a : Answers) (are : Ar
     slots = subst (λ (events : List EventId). AreSlotsOf a.graph.roster events s.kept.slots) (sym is.2)
         (subst (λ (slots : List Slot). AreSlotsOf a.graph.roster (kept ++ event ∷ []) slots) (sym is.3.2)
         (slots_more a.graph.roster are.lawful a.graph.solver.graph are.graph.grown.knows kept a.graph.solver.kept.slots are.slots node event found.known is.3.0 is.3.1));
-    source_slot = same_source (listed a.graph.roster) problem a.graph.roster.declaration.source a.source a.graph.solver s is.3.3 are.source_slot;
+    source_slot = same_source (listed a.graph.roster) problem (declared a).source a.source a.graph.solver s is.3.3 are.source_slot;
     rows = is.6;
   }
   answers_now kept' s (Refused r) is =

@@ -20,7 +20,7 @@ use Rattle.traces.specs.Messages.{problem_of_seen}
 use Rattle.roster.specs.Groups.{with_more}
 use Rattle.roster.specs.Roster.{IsRoster, id_of, listed}
 use Rattle.session_answers.specs.declared.answers.Answers.{Answers}
-use Rattle.session_answers.specs.Ready.{AreAnswersOf, KeepsSource, IsAddition}
+use Rattle.session_answers.specs.Ready.{AreAnswersOf, KeepsSource, IsAddition, declared}
 use Rattle.session_answers.specs.Keeping.{AreAnswersBut, BringsEvents, BringsSource}
 use Rattle.replies.proofs.Elements.{some_same}
 use Rattle.session_answers.proofs.AskedRows.{listed_reading}
@@ -34,18 +34,18 @@ no_slot l l' p (Some clock) (Some stamp) stamp' s t solution none is is' = let n
 no_slot l l' p (Some clock) None None s t solution none is is' = is'.1
 no_slot l l' p (Some clock) None (Some stamp) s t solution none is is' = absurd (is.0 (stamp, listed_reading l' p t clock stamp is'.0.node solution is'.2))
 
-source_same : (seen : List (List Seen)) (kept : List EventId) (a new : Answers) → AreAnswersOf seen kept a → AreAnswersOf seen kept new → new.graph.roster.declaration ≡ a.graph.roster.declaration →
+source_same : (seen : List (List Seen)) (kept : List EventId) (a new : Answers) → AreAnswersOf seen kept a → AreAnswersOf seen kept new → declared new ≡ declared a →
     ((slot : Slot) → a.graph.solver.kept.source ≡ Some slot → new.graph.solver.kept.source ≡ Some slot) → new.graph.solver.kept.source ≡ a.graph.solver.kept.source
-source_same seen kept a new are are' declared stays = by a.graph.solver.kept.source refl
+source_same seen kept a new are are' same stays = by a.graph.solver.kept.source refl
   where
     d : Declaration
-    d = a.graph.roster.declaration
+    d = declared a
 
     solution : IsSolutionBy (listed new.graph.roster) (problem_of_seen d seen) new.graph.solver
-    solution = subst (λ (x : Declaration). IsSolutionBy (listed new.graph.roster) (problem_of_seen x seen) new.graph.solver) declared are'.graph.solution
+    solution = subst (λ (x : Declaration). IsSolutionBy (listed new.graph.roster) (problem_of_seen x seen) new.graph.solver) same are'.graph.solution
 
     source : KeepsSource (listed new.graph.roster) (problem_of_seen d seen) d.source new.source new.graph.solver
-    source = subst (λ (x : Declaration). KeepsSource (listed new.graph.roster) (problem_of_seen x seen) x.source new.source new.graph.solver) declared are'.source_slot
+    source = subst (λ (x : Declaration). KeepsSource (listed new.graph.roster) (problem_of_seen x seen) x.source new.source new.graph.solver) same are'.source_slot
 
     by : (o : Option Slot) → a.graph.solver.kept.source ≡ o → new.graph.solver.kept.source ≡ a.graph.solver.kept.source
     by (Some slot) is = stays slot is ∙ sym is
@@ -67,9 +67,9 @@ same_events before after k more b none =
 
 -- so the source has its slot or none as before
 pub source_idle : (before after : List (List Seen)) (kept : List EventId) (a new : Answers) (k more : ℕ) → AreAnswersOf before kept a → AreAnswersOf after kept new → BringsEvents before after k more →
-    new.graph.roster.declaration ≡ a.graph.roster.declaration → ((slot : Slot) → a.graph.solver.kept.source ≡ Some slot → new.graph.solver.kept.source ≡ Some slot) → more ≡ 0 → new.graph.solver.kept.source ≡ a.graph.solver.kept.source
-source_idle before after kept a new k more are are' b declared stays none =
-    source_same before kept a new are (subst (λ (x : List (List Seen)). AreAnswersOf x kept new) (same_events before after k more b none) are') declared stays
+    declared new ≡ declared a → ((slot : Slot) → a.graph.solver.kept.source ≡ Some slot → new.graph.solver.kept.source ≡ Some slot) → more ≡ 0 → new.graph.solver.kept.source ≡ a.graph.solver.kept.source
+source_idle before after kept a new k more are are' b same stays none =
+    source_same before kept a new are (subst (λ (x : List (List Seen)). AreAnswersOf x kept new) (same_events before after k more b none) are') same stays
 
 -- ---- what the graph is brought, and then the source's slot
 again : (old mid new between : SolverLists) → new.graph ≡ mid.graph → IsBetween old mid between → IsBetween old new between
@@ -107,11 +107,11 @@ module _ (accepted : List Accepted) (k more : ℕ) (under : Accepted) (at : slic
   pub but_source : (before : List (List Seen)) (kept : List EventId) (a new : Answers) → AreAnswersOf before kept a → BringsEvents before (seen_in accepted) k more → IsRoster new.graph.roster →
       ((seen : List (List Seen)) → IsKeptFor seen a.graph.roster a.graph.solver → AreEndsBy (map id_of a.graph.roster.came) a.graph.matcher seen → IsKeptFor (with_more seen k events) new.graph.roster new.graph.solver) →
       ((seen : List (List Seen)) → IsKeptFor seen a.graph.roster a.graph.solver → AreEndsBy (map id_of a.graph.roster.came) a.graph.matcher seen → AreEndsBy (map id_of new.graph.roster.came) new.graph.matcher (with_more seen k events)) →
-      new.graph.roster.declaration ≡ a.graph.roster.declaration → KeepsEvents a.graph.roster new.graph.roster → KeepsReadings a.graph.roster new.graph.roster → KeepsRows a.graph.solver new.graph.solver → new.source ≡ a.source →
+      declared new ≡ declared a → KeepsEvents a.graph.roster new.graph.roster → KeepsReadings a.graph.roster new.graph.roster → KeepsRows a.graph.solver new.graph.solver → new.source ≡ a.source →
       AreAnswersBut k (seen_in accepted) kept new
-  but_source before kept a new are b lawful graph ends declared ids readings rows stamp =
+  but_source before kept a new are b lawful graph ends same ids readings rows stamp =
       let is : with_more before k events ≡ seen_in accepted = all_then before b in
       so_far k before (seen_in accepted) kept a new are lawful
       (subst (λ (seen : List (List Seen)). IsKeptFor seen new.graph.roster new.graph.solver) is (graph before are.graph are.ends))
       (subst (λ (seen : List (List Seen)). AreEndsBy (map id_of new.graph.roster.came) new.graph.matcher seen) is (ends before are.graph are.ends))
-      declared ids readings rows stamp (reads_then a.graph.roster.declaration before (seen_in accepted) k more b)
+      same ids readings rows stamp (reads_then (declared a) before (seen_in accepted) k more b)

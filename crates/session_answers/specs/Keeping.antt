@@ -21,7 +21,7 @@ use Rattle.replies.specs.declared.outcome.Outcome.{Outcome}
 use Rattle.replies.specs.declared.outcome.Outcome.TheVariants.{Added, Kept, Refused}
 use Rattle.replies.specs.Reply.{most_kept}
 use Rattle.session_answers.specs.declared.answers.Answers.{Answers}
-use Rattle.session_answers.specs.Ready.{HasNodeOf, AreSlotsOf, HasSpareRows, answers_problem}
+use Rattle.session_answers.specs.Ready.{HasNodeOf, AreSlotsOf, HasSpareRows, answers_problem, declared}
 
 -- what is known of the graph stays, and so many free rows are taken
 pub record TakesFree (taken : ℕ) (old new : SolverLists) : Type 0 where
@@ -88,5 +88,5 @@ pub record AreAnswersBut (label : ℕ) (seen : List (List Seen)) (kept : List Ev
   pub graph : IsKeptFor seen a.graph.roster a.graph.solver
   pub ends : AreEndsBy (map id_of a.graph.roster.came) a.graph.matcher seen
   pub slots : AreSlotsOf a.graph.roster kept a.graph.solver.kept.slots
-  pub source_slot : KeepsSourceBut (clock_at a.graph.roster.declaration label) (listed a.graph.roster) (answers_problem a seen) a.graph.roster.declaration.source a.source a.graph.solver
+  pub source_slot : KeepsSourceBut (clock_at (declared a) label) (listed a.graph.roster) (answers_problem a seen) (declared a).source a.source a.graph.solver
   pub rows : HasSpareRows a.graph.solver

@@ -1,5 +1,6 @@
 -- What stands ready for questions.
 use Rattle.std.specs.Prelude.{◌≡◌, ℕ, ◌+◌, ◌*◌, ◌≤◌, List, length, map, slice_get, true, Option, Some, None}
+use Rattle.decl.specs.Declaration.{Declaration}
 use Rattle.traces.specs.Seen.{Seen}
 use Rattle.traces.specs.declared.event_id.EventId.{EventId}
 use Rattle.traces.specs.Messages.{problem_of_seen}
@@ -44,9 +45,13 @@ KeepsSource l p (Some clock) (Some stamp) s = IsSourceReading l s clock stamp
 abbrev pub HasSpareRows : SolverLists → Type 0
 HasSpareRows s = (2 * length s.kept.slots + 4 ≤ length s.pool.rows) × (length s.pool.rows ≤ free_rows s.pool + 2 * length (all_slots s.kept))
 
+-- their declaration
+abbrev pub declared : Answers → Declaration
+declared a = a.graph.roster.declaration
+
 -- the problem of events by the declaration of the answers
 abbrev pub answers_problem : Answers → List (List Seen) → ProblemLists
-answers_problem a seen = problem_of_seen a.graph.roster.declaration seen
+answers_problem a seen = problem_of_seen (declared a) seen
 
 -- the answers are those of these events: the graph is kept for them and the matcher has their ends of messages, with the rows of the
 -- kept events and of the source, and the stamp of the source's reading
@@ -55,7 +60,7 @@ pub record AreAnswersOf (seen : List (List Seen)) (kept : List EventId) (a : Ans
   pub graph : IsKeptFor seen a.graph.roster a.graph.solver
   pub ends : AreEndsBy (map id_of a.graph.roster.came) a.graph.matcher seen
   pub slots : AreSlotsOf a.graph.roster kept a.graph.solver.kept.slots
-  pub source_slot : KeepsSource (listed a.graph.roster) (answers_problem a seen) a.graph.roster.declaration.source a.source a.graph.solver
+  pub source_slot : KeepsSource (listed a.graph.roster) (answers_problem a seen) (declared a).source a.source a.graph.solver
   pub rows : HasSpareRows a.graph.solver
 
 -- ---- additions

@@ -11,7 +11,7 @@ ghost use Rattle.msg_match.specs.Ends.{IsChange};
 ghost use Rattle.roster.specs.Roster.{IsRoster};
 ghost use Rattle.queries.specs.Consistent.{IsConsistent};
 ghost use Rattle.replies.specs.Reply.{most_kept};
-ghost use Rattle.session_answers.specs.Ready.{AreAnswersOf, IsAddition, answers_problem};
+ghost use Rattle.session_answers.specs.Ready.{AreAnswersOf, IsAddition, answers_problem, declared};
 ghost use Rattle.session_answers.specs.Keeping.{AreAnswersBut, BringsEvents, BringsSource, clock_at};
 
 use crate::slots::keep_source;
@@ -54,7 +54,7 @@ pub(crate) fn rows_for(kept: usize) -> u32
 
 /// The declaration.
 pub fn decl_of(answers: &Answers) -> &Decl
-    ensures same { declaration_of result.now ≡ answers.now.graph.roster.declaration }
+    ensures same { declaration_of result.now ≡ declared answers.now }
     ensures lawful { IsRoster answers.now.graph.roster }
 {
     answers.graph.roster.decl()
@@ -63,8 +63,8 @@ pub fn decl_of(answers: &Answers) -> &Decl
 /// The answers where nothing was added. It answers an error only where memory runs out.
 pub fn first_answers(alloc: Global, decl: Decl) -> Result<Answers, AllocError>
     requires { IsDeclaration (declaration_of decl) }
-    ensures declared { IfOk result (λ answers. answers.graph.roster.declaration ≡ declaration_of decl) }
-    ensures ready { IfOk result (λ answers. AreAnswersOf (map (λ (l : Label). []) answers.graph.roster.declaration.labels) [] answers) }
+    ensures declaration { IfOk result (λ answers. declared answers ≡ declaration_of decl) }
+    ensures ready { IfOk result (λ answers. AreAnswersOf (map (λ (l : Label). []) (declared answers).labels) [] answers) }
 {
     let mut graph = KeptGraph::new(alloc, decl)?;
     // It tells that the roster is lawful.
@@ -99,7 +99,7 @@ fn is_on_source(decl: &Decl, k: usize) -> bool
 
 // Keeps the rows of a reading of the source's clock, where events that came under the label at a place brought its first.
 fn keep_source_now<L: Ledger>(answers: &mut Answers, k: usize, steps: &mut Steps<L>)
-    requires label { k < length answers.old.graph.roster.declaration.labels }
+    requires label { k < length (declared answers.old).labels }
     requires so_far { (seen : List (List Seen)) × (kept : List EventId) × AreAnswersBut k seen kept answers.old }
     ensures roster { answers.new.graph.roster ≡ answers.old.graph.roster }
     ensures matcher { answers.new.graph.matcher ≡ answers.old.graph.matcher }
@@ -134,7 +134,7 @@ pub fn renew<L: Ledger>(
     requires inside { k < length accepted.now }
     requires few { event_count (seen_in accepted.now) ≤ most_events }
     requires brings { (before : List (List Seen)) × (kept : List EventId) × AreAnswersOf before kept answers.old × BringsEvents before (seen_in accepted.now) k more }
-    ensures declaration { answers.new.graph.roster.declaration ≡ answers.old.graph.roster.declaration }
+    ensures declaration { declared answers.new ≡ declared answers.old }
     ensures consistent { IfOk result (λ renewed. IsConsistent (answers_problem answers.new (seen_in accepted.now)) renewed.consistent) }
     ensures changed { IfOk result (λ renewed. (before : List (List Seen)) (kept : List EventId) → AreAnswersOf before kept answers.old → BringsEvents before (seen_in accepted.now) k more
         → IsChange before (seen_in accepted.now) renewed.changed) }

@@ -28,14 +28,21 @@ pub(crate) fn find_event(names: &Roster, name: &[u8]) -> Option<(EventId, u32)>
     }
 }
 
+/// Two events, each by its name.
+#[derive(Clone, Copy)]
+pub struct TwoNames<'a> {
+    pub first: &'a [u8],
+    pub second: &'a [u8],
+}
+
 /// The nodes of two events.
-pub(crate) fn two_events(names: &Roster, first: &[u8], second: &[u8]) -> Option<(u32, u32)>
+pub(crate) fn two_events(names: &Roster, events: &TwoNames) -> Option<(u32, u32)>
     ensures lawful { IsRoster names.now }
-    ensures some { IfSome result (λ two. ((event : EventId) × IsCalled names.now first.now event two.0) × ((event : EventId) × IsCalled names.now second.now event two.1)) }
-    ensures none { IfNone result (Finds names.now first.now None ⊎ Finds names.now second.now None) }
+    ensures some { IfSome result (λ nodes. ((event : EventId) × IsCalled names.now events.now.first.now event nodes.0) × ((event : EventId) × IsCalled names.now events.now.second.now event nodes.1)) }
+    ensures none { IfNone result (Finds names.now events.now.first.now None ⊎ Finds names.now events.now.second.now None) }
 {
-    match find_event(names, first) {
-        Some((_, from)) => match find_event(names, second) {
+    match find_event(names, events.first) {
+        Some((_, from)) => match find_event(names, events.second) {
             Some((_, to)) => Some((from, to)),
             None => None,
         },

@@ -13,5 +13,6 @@ mod questions;
 mod slots;
 
 pub use answers::{Answers, Renewed, decl_of, first_answers, renew};
+pub use events::TwoNames;
 pub use kept_events::keep_event;
 pub use questions::{ask_comparison, ask_proof, ask_time};

@@ -12,7 +12,7 @@ ghost use Rattle.replies.specs.Reply.{IsTimeReply, OfOne, OfTwo};
 ghost use Rattle.session_answers.specs.Ready.{KeepsSource};
 ghost use Rattle.session_answers.specs.Keeping.{HasSlotBy};
 
-use crate::events::{find_event, two_events};
+use crate::events::{TwoNames, find_event, two_events};
 use atto::{Nano, Steps};
 use ports::{Failed, Sink};
 use queries::{Asked, Comparison, write_comparison, write_proof, write_time};
@@ -26,19 +26,18 @@ pub fn ask_comparison<O: Sink, L: Ledger>(
     names: &Roster,
     solver: &mut Solver,
     asked: Asked,
-    first: &[u8],
-    second: &[u8],
+    events: &TwoNames,
     out: &mut O,
     steps: &mut Steps<L>,
 ) -> Result<(), Failed>
     requires solution { (p : ProblemLists) × IsSolutionBy (listed names.now) p solver.old }
     requires free { 2 ≤ free_rows solver.old.pool }
     ensures writes { (p : ProblemLists) → IsSolutionBy (listed names.now) p solver.old
-        → (text : List ℕ) × OfTwo p first.now second.now (IsComparisonLine asked p) text × Writes text (O.told out.old) (O.told out.new) result }
+        → (text : List ℕ) × OfTwo p events.now.first.now events.now.second.now (IsComparisonLine asked p) text × Writes text (O.told out.old) (O.told out.new) result }
     ensures leaves { LeavesAnswer solver.old solver.new }
-    ensures steps { HasSlotBy names.now solver.old first.now ⊎ HasSlotBy names.now solver.old second.now → steps.new ≡ steps.old }
+    ensures steps { HasSlotBy names.now solver.old events.now.first.now ⊎ HasSlotBy names.now solver.old events.now.second.now → steps.new ≡ steps.old }
 {
-    match two_events(names, first, second) {
+    match two_events(names, events) {
         Some((from, to)) => {
             let question = Comparison {
                 asked,
@@ -56,19 +55,18 @@ pub fn ask_comparison<O: Sink, L: Ledger>(
 pub fn ask_proof<O: Sink, L: Ledger>(
     names: &Roster,
     solver: &mut Solver,
-    first: &[u8],
-    second: &[u8],
+    events: &TwoNames,
     out: &mut O,
     steps: &mut Steps<L>,
 ) -> Result<(), Failed>
     requires solution { (p : ProblemLists) × IsSolutionBy (listed names.now) p solver.old }
     requires free { 2 ≤ free_rows solver.old.pool }
     ensures writes { (p : ProblemLists) → IsSolutionBy (listed names.now) p solver.old
-        → (text : List ℕ) × OfTwo p first.now second.now (IsProofText p) text × Writes text (O.told out.old) (O.told out.new) result }
+        → (text : List ℕ) × OfTwo p events.now.first.now events.now.second.now (IsProofText p) text × Writes text (O.told out.old) (O.told out.new) result }
     ensures leaves { LeavesAnswer solver.old solver.new }
-    ensures steps { HasSlotBy names.now solver.old first.now → steps.new ≡ steps.old }
+    ensures steps { HasSlotBy names.now solver.old events.now.first.now → steps.new ≡ steps.old }
 {
-    match two_events(names, first, second) {
+    match two_events(names, events) {
         Some((from, to)) => write_proof(names, solver, from, to, out, steps),
         None => write_refusal(Refusal::UnknownEvent, out),
     }

@@ -12,11 +12,11 @@ use Rattle.traces.proofs.Members.{first_of_pairs, rest_of_pairs, no_pairs}
 use Rattle.roster.specs.Roster.{RosterLists}
 use Rattle.session_graph.specs.declared.plans.Due.{Due}
 use Rattle.session_graph.specs.declared.plans.Turn.{Turn}
-use Rattle.session_graph.specs.Extensions.{Extends}
 use Rattle.session_graph.specs.Plans.{turn_numbers, messages_in}
 use Rattle.session_graph.specs.Growth.{KeepsNodesThere}
 use Rattle.session_graph.specs.Arrivals.{HaveOwnSends, HaveCome}
 use Rattle.session_graph.proofs.Bringing.{rows_same, rows_then}
+use Rattle.session_graph.proofs.Extending.{extends_itself, extends_then}
 
 -- ---- what a roster keeps
 pub keeps_none : (g : GraphLists) (r : RosterLists) → KeepsNodesThere g r r
@@ -50,6 +50,7 @@ come_none r s = record {
   stay = λ n has. has;
   rows = rows_same s;
   room = λ n room. room;
+  extends = extends_itself s;
 }
 
 no_sends : (messages : List Message) → HaveOwnSends [] messages
@@ -68,6 +69,7 @@ come_event more a b c s t u one two = record {
   stay = λ n has. two.stay n (one.stay n has);
   rows = rows_then s t u one.rows two.rows;
   room = λ n room. two.room n (one.room n room);
+  extends = extends_then s t u one.extends two.extends;
 }
 
 -- a message more
@@ -91,6 +93,7 @@ come_message m more a b c s t u one two = record {
   stay = λ n has. two.stay n (one.stay n has);
   rows = rows_then s t u one.rows two.rows;
   room = λ n room. two.room n (one.room n room);
+  extends = extends_then s t u one.extends two.extends;
 }
 
 -- what is left of a list from a place on
@@ -135,7 +138,6 @@ pub record StandsAt (turns : List Turn) (dues : List Due) (a b : RosterLists) (s
   pub nodes : length t.graph.nodes ≤ length s.graph.nodes + 2 * n
   pub arcs : length t.graph.arcs + 2 * l ≤ length s.graph.arcs + 6 * n + 2 * length dues
   pub declaration : b.declaration ≡ a.declaration
-  pub extends : Extends s t
 
 pub stands_as : (turns : List Turn) (dues : List Due) (a b b' : RosterLists) (s t t' : SolverLists) (k next next' left left' : ℕ) → b' ≡ b → t' ≡ t → next' ≡ next → left' ≡ left
     → StandsAt turns dues a b s t k next left → StandsAt turns dues a b' s t' k next' left'

@@ -47,6 +47,7 @@ use Rattle.session_graph.specs.Growth.{KeepsNodesThere}
 use Rattle.session_graph.specs.UnderWay.{KnowsNodesThere, IsEntering}
 use Rattle.session_graph.specs.Arrivals.{HaveCome}
 use Rattle.session_graph.proofs.Bringing.{links_few}
+use Rattle.session_graph.proofs.Extending.{extends_then, extends_by_nodes}
 use Rattle.session_graph.proofs.Seeking.{there_by, beside_by}
 use Rattle.session_graph.proofs.Entered.{map_back, told_named, tells_still, one_place}
 
@@ -440,6 +441,7 @@ module _ (r : RosterLists) (is : IsRoster r) (v : ℕ) (e : Came) (at : slice_ge
             stay = λ n (k, at'). (k, kept_at k n at');
             rows = record { slots = brings.rows.slots ∙ rows_two.slots; source = brings.rows.source ∙ rows_two.source; count = brings.rows.count ∙ rows_two.count; free = brings.rows.free ∙ rows_two.free };
             room = λ n room. brings.room n (room_two s s1 s2 known v place stamp event_pushed same_is reading_is n room);
+            extends = extends_then s s2 s3 (extends_by_nodes s s1 s2 known (nodes.Event v) (nodes.Reading place stamp) event_pushed same_is reading_is) brings.extends;
           }
             where
               rows_two : KeepsRows s s2

@@ -25,12 +25,12 @@ own = record { value = pos 0; parent = no_parent; known = true }
 
 -- the first event is kept, by rows 0 and 1
 abbrev kept : KeptRows
-kept = record { slots = record { node = 0; from = 0; to = 1 } ∷ []; source = None; present = true; room = 3 }
+kept = record { slots = record { node = 0; from = 0; to = 1 } ∷ []; source = None; present = true; room = 3; found = 0 ∷ 0 ∷ 0 ∷ [] }
 
 abbrev between : SolverLists
 between = record {
   graph = record { nodes = Event 0 ∷ Event 1 ∷ []; arcs = []; in_force = []; leaving = [] ∷ [] ∷ []; arriving = [] ∷ [] ∷ [] };
-  earliest = record { values = pos 0 ∷ pos 0 ∷ []; is_solved = true };
+  earliest = record { values = pos 0 ∷ pos 0 ∷ []; is_solved = true; workspace = 0 ∷ 0 ∷ [] };
   contradiction = [];
   pool = record { width = 3; rows = record { taken = true; cells = own ∷ unknown ∷ unknown ∷ [] } ∷ record { taken = true; cells = own ∷ unknown ∷ unknown ∷ [] } ∷ [] };
   kept = kept;
@@ -41,14 +41,14 @@ between = record {
 abbrev grown : SolverLists
 grown = record between {
   graph = record { nodes = Event 0 ∷ Event 1 ∷ Event 2 ∷ []; arcs = []; in_force = []; leaving = [] ∷ [] ∷ [] ∷ []; arriving = [] ∷ [] ∷ [] ∷ [] };
-  earliest = record { values = pos 0 ∷ pos 0 ∷ pos 0 ∷ []; is_solved = true };
+  earliest = record { values = pos 0 ∷ pos 0 ∷ pos 0 ∷ []; is_solved = true; workspace = 0 ∷ 0 ∷ 0 ∷ [] };
 }
 
 -- and the arc: the first event is at 3 now, and from it the second one is known
 abbrev joined : SolverLists
 joined = record grown {
   graph = record { nodes = Event 0 ∷ Event 1 ∷ Event 2 ∷ []; arcs = arc ∷ []; in_force = true ∷ []; leaving = (0 ∷ []) ∷ [] ∷ [] ∷ []; arriving = [] ∷ (0 ∷ []) ∷ [] ∷ [] };
-  earliest = record { values = pos 3 ∷ pos 0 ∷ pos 0 ∷ []; is_solved = true };
+  earliest = record { values = pos 3 ∷ pos 0 ∷ pos 0 ∷ []; is_solved = true; workspace = 0 ∷ 0 ∷ 0 ∷ [] };
   pool = record { width = 3; rows = record { taken = true; cells = own ∷ record { value = neg_ℤ (pos 3); parent = 0; known = true } ∷ unknown ∷ [] } ∷ record { taken = true; cells = own ∷ unknown ∷ unknown ∷ [] } ∷ [] };
 }
 

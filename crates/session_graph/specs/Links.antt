@@ -7,6 +7,9 @@ use Rattle.problem_model.specs.Bounds.{ComesAfter}
 use Rattle.sync_graph.specs.Graph.{GraphLists}
 use Rattle.problem_graph.specs.Standing.{HasNode}
 use Rattle.roster.specs.Entering.{reading_bounds}
+use Rattle.roster.specs.Groups.{group_at}
+use Rattle.roster.specs.Readings.{HasStamp}
+use Rattle.roster.specs.Roster.{RosterLists}
 use Rattle.session_graph.specs.declared.follows.Nearest.{Nearest}
 
 -- the readings nearest to one of a clock are nodes: on its own clock, below and above it, or else on others, the later of which is one of so many
@@ -23,6 +26,10 @@ pub record AreThere (clocks : ℕ) (g : GraphLists) (place stamp : ℕ) (n : Nea
 pub record AreBeside (p : ProblemLists) (place : ℕ) (n : Nearest) : Type 0 where
   pub earlier : IfSome n.earlier (λ e. ComesAfter p e.0 place)
   pub later : IfSome n.later (λ e. ComesAfter p place e.0)
+
+-- each reading that is a node is one that its clock has shown
+abbrev pub ShowsNodes : RosterLists → GraphLists → Type 0
+ShowsNodes r g = (clock stamp : ℕ) → HasNode g (nodes.Reading clock stamp) → HasStamp (group_at r.readings clock) stamp
 
 -- the bounds between it and them
 abbrev pub bounds_beside : ℕ → ℕ → Nearest → List Bound

@@ -2,14 +2,12 @@
 ghost use Rattle.std.specs.Prelude.{◌≡◌, ◌<◌, ◌≤◌, ◌+◌, ◌-◌, ◌*◌, ◌⊎◌, ℕ, Bool, true, false, List, All, length, slice_get, Some, Contains, OnOk};
 ghost use Rattle.problem_model.specs.declared.items.Message.{Message};
 ghost use Rattle.problem_model.specs.declared.items.Node.TheVariants as nodes;
-ghost use Rattle.problem_model.specs.Limits.{most_arcs, most_nodes};
 ghost use Rattle.problem_graph.specs.Standing.{HasNode};
-ghost use Rattle.solver.specs.Solver.{HasRoom};
 ghost use Rattle.session_graph.specs.declared.plans.Due.{Due};
 ghost use Rattle.session_graph.specs.UnderWay.{IsEntering};
-ghost use Rattle.session_graph.specs.Extensions.{Extends, TakesFewToPush};
+ghost use Rattle.session_graph.specs.Extensions.{TakesFewToPush};
 ghost use Rattle.session_graph.specs.Plans.{turn_numbers, messages_in};
-ghost use Rattle.session_graph.specs.Arrivals.{HaveOwnSends, HaveCome};
+ghost use Rattle.session_graph.specs.Arrivals.{HasRoomFor, HaveOwnSends, HaveCome};
 
 use crate::entries::{enter, has_entered};
 use crate::joints::join;
@@ -89,15 +87,12 @@ pub(crate) fn come<L: Ledger>(
     requires receives { All (λ m. m.receive < length roster.old.came) (messages_in dues.now) }
     requires ready { (entered : ℕ → Bool) × (messages : List Message) × IsEntering entered messages roster.old solver.old × HaveOwnSends (messages_in dues.now) messages }
     requires all { (v : ℕ) → v < length roster.old.came → HasNode solver.old.graph (nodes.Event v) ⊎ Contains (turn_numbers turns.now) v }
-    requires nodes { length solver.old.graph.nodes + 2 * length turns.now ≤ most_nodes }
-    requires room { HasRoom (length solver.old.graph.nodes + 2 * length turns.now) solver.old }
-    requires arcs { length solver.old.graph.arcs + 6 * length turns.now + 2 * length dues.now ≤ most_arcs }
+    requires room { HasRoomFor (2 * length turns.now) (6 * length turns.now + 2 * length dues.now) solver.old }
     ensures come { OnOk result (HaveCome (messages_in dues.now) roster.old roster.new solver.old solver.new) }
     ensures all { OnOk result ((v : ℕ) → v < length roster.old.came → HasNode solver.new.graph (nodes.Event v)) }
     ensures nodes { OnOk result (length solver.new.graph.nodes ≤ length solver.old.graph.nodes + 2 * length turns.now) }
     ensures arcs { OnOk result (length solver.new.graph.arcs ≤ length solver.old.graph.arcs + 6 * length turns.now + 2 * length dues.now) }
     ensures declaration { roster.new.declaration ≡ roster.old.declaration }
-    ensures extends { OnOk result (Extends solver.old solver.new) }
     ensures steps { OnOk result (TakesFewToPush solver.old solver.new steps.old steps.new) }
 {
     let mut next = 0;

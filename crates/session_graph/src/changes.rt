@@ -19,7 +19,7 @@ use atto::Steps;
 use msg_match::Change;
 use roster::Roster;
 use solver::Solver;
-use std::alloc::{AllocError, Global};
+use std::alloc::AllocError;
 use std::sync::ledger::Ledger;
 use traces::Event;
 
@@ -27,7 +27,6 @@ use traces::Event;
 /// events enter in the order of their stamps, and each message that comes joins once both its ends have entered. There is room for
 /// all nodes. An error comes only where memory runs out, and then roster and graph are used no more.
 pub(crate) fn change<L: Ledger>(
-    alloc: Global,
     roster: &mut Roster,
     solver: &mut Solver,
     label: u32,
@@ -54,17 +53,20 @@ pub(crate) fn change<L: Ledger>(
     ensures nothing { events.now ≡ [] → solver.old.earliest.is_solved ≡ true → OnOk result (steps.new ≤ steps.old) }
     ensures steps { OnOk result (TakesFewToAdd (length events.now) solver.old solver.new steps.old steps.new) }
 {
-    // Here and below it tells that the roster is lawful.
-    let _ = roster.decl();
+    // Here and below `decl` tells that the roster is lawful.
+    let alloc = *roster.decl().labels.allocator();
     let withdrawn = messages_of(alloc, roster, &change.withdrawn)?;
     withdraw(alloc, roster, solver, &withdrawn, steps)?;
+    // It tells that the roster is lawful.
     let _ = roster.decl();
     let first = roster.push(label, events)?;
+    // It tells that the roster is lawful.
     let _ = roster.decl();
     let turns = turns_of(alloc, events, first)?;
     let added = messages_of(alloc, roster, &change.added)?;
     let dues = dues_of(alloc, roster, &added, first)?;
     come(roster, solver, &turns, &dues, steps)?;
+    // It tells that the roster is lawful.
     let _ = roster.decl();
     Ok(())
 }

@@ -18,14 +18,14 @@ ghost use Rattle.roster.specs.Roster.{SetsReading, event_at};
 ghost use Rattle.roster.specs.Growing.{IsGrowing};
 ghost use Rattle.session_graph.specs.Pushes.{Brings};
 ghost use Rattle.session_graph.specs.Links.{AreThere, AreBeside, bounds_beside};
-ghost use Rattle.session_graph.specs.Extensions.{Extends, TakesFewToPush};
+ghost use Rattle.session_graph.specs.Extensions.{TakesFewToPush};
 ghost use Rattle.session_graph.specs.UnderWay.{IsEntering};
-ghost use Rattle.session_graph.specs.Arrivals.{HaveCome};
+ghost use Rattle.session_graph.specs.Arrivals.{HasRoomFor, HaveCome};
 
 use crate::follows::{Nearest, nearest_of};
 use crate::links::push_links;
 use crate::nearest::is_known;
-use crate::pushes::push_stamp;
+use crate::pushes::{ClockReading, push_stamp};
 use atto::{Nano, Steps};
 use problem_model::{Clock, Node};
 use roster::Roster;
@@ -83,26 +83,25 @@ fn push_entry<L: Ledger>(
     roster: &Roster,
     solver: &mut Solver,
     v: u32,
-    place: u32,
-    clock: &Clock,
-    stamp: Nano,
+    reading: &ClockReading,
     nearest: &Nearest,
     steps: &mut Steps<L>,
 ) -> Result<(), AllocError>
-    requires inside { place < length roster.now.declaration.clocks }
+    requires inside { reading.now.place < length roster.now.declaration.clocks }
     requires current { IsCurrent solver.old }
     requires event { HasNode solver.old.graph (nodes.Event v) }
-    requires reading { HasNode solver.old.graph (nodes.Reading place stamp) }
-    requires there { AreThere (length roster.now.declaration.clocks) solver.old.graph place stamp nearest.now }
+    requires reading { HasNode solver.old.graph (nodes.Reading reading.now.place reading.now.stamp) }
+    requires there { AreThere (length roster.now.declaration.clocks) solver.old.graph reading.now.place reading.now.stamp nearest.now }
     requires room { length solver.old.graph.arcs + 6 ≤ most_arcs }
-    ensures brings { OnOk result (Brings (bounds_beside place stamp nearest.now ++ (Late v ∷ Early v ∷ [])) solver.old solver.new) }
+    ensures brings { OnOk result (Brings (bounds_beside reading.now.place reading.now.stamp nearest.now ++ (Late v ∷ Early v ∷ [])) solver.old solver.new) }
     ensures steps { OnOk result (TakesFewToPush solver.old solver.new steps.old steps.new) }
-    ensures left { OnOk result ((p : ProblemLists) (entered : ℕ → Bool) (e : items.Event) → EventAt p v e → e.clock ≡ place → e.stamp ≡ stamp → ClockAt p place clock.now
-        → p.follows ≡ follows_of roster.now.declaration → AreBeside p place nearest.now
-        → IsGrowing p entered (bounds_beside place stamp nearest.now ++ (Late v ∷ Early v ∷ [])) solver.old.graph → IsGrowing p entered [] solver.new.graph) }
+    ensures left { OnOk result ((p : ProblemLists) (entered : ℕ → Bool) (e : items.Event)
+        → EventAt p v e → e.clock ≡ reading.now.place → e.stamp ≡ reading.now.stamp → ClockAt p reading.now.place reading.now.clock
+        → p.follows ≡ follows_of roster.now.declaration → AreBeside p reading.now.place nearest.now
+        → IsGrowing p entered (bounds_beside reading.now.place reading.now.stamp nearest.now ++ (Late v ∷ Early v ∷ [])) solver.old.graph → IsGrowing p entered [] solver.new.graph) }
 {
-    push_links(roster, solver, place, clock, stamp, nearest, steps)?;
-    push_stamp(solver, v, place, clock, stamp, steps)?;
+    push_links(roster, solver, reading, nearest, steps)?;
+    push_stamp(solver, v, reading, steps)?;
     Ok(())
 }
 
@@ -150,17 +149,15 @@ fn enter_new<L: Ledger>(
     requires inside { v < length roster.old.came }
     requires new { HasNode solver.old.graph (nodes.Event v) → ⊥ }
     requires ready { (entered : ℕ → Bool) × (messages : List Message) × IsEntering entered messages roster.old solver.old }
-    requires nodes { length solver.old.graph.nodes + 2 ≤ most_nodes }
-    requires room { HasRoom (length solver.old.graph.nodes + 2) solver.old }
-    requires arcs { length solver.old.graph.arcs + 6 ≤ most_arcs }
+    requires room { HasRoomFor 2 6 solver.old }
     ensures come { OnOk result (HaveCome [] roster.old roster.new solver.old solver.new) }
     ensures entered { OnOk result (HasNode solver.new.graph (nodes.Event v)) }
     ensures nodes { OnOk result (length solver.new.graph.nodes ≤ length solver.old.graph.nodes + 2) }
     ensures arcs { OnOk result (length solver.new.graph.arcs ≤ length solver.old.graph.arcs + 6) }
     ensures declaration { roster.new.declaration ≡ roster.old.declaration }
-    ensures extends { OnOk result (Extends solver.old solver.new) }
     ensures steps { OnOk result (TakesFewToPush solver.old solver.new steps.old steps.new) }
 {
+    // It tells that the roster is lawful.
     let _ = roster.decl();
     let came = roster.event(v);
     let stamp = came.stamp;
@@ -171,7 +168,12 @@ fn enter_new<L: Ledger>(
     let next = hint_of(&nearest.above, hint);
     push_event(roster, solver, v)?;
     push_reading(roster, solver, place, stamp, known)?;
-    push_entry(roster, solver, v, place, &clock, stamp, &nearest, steps)?;
+    let reading = ClockReading {
+        place,
+        clock,
+        stamp,
+    };
+    push_entry(roster, solver, v, &reading, &nearest, steps)?;
     Ok(next)
 }
 
@@ -187,15 +189,12 @@ pub(crate) fn enter<L: Ledger>(
 ) -> Result<u64, AllocError>
     requires inside { v < length roster.old.came }
     requires ready { (entered : ℕ → Bool) × (messages : List Message) × IsEntering entered messages roster.old solver.old }
-    requires nodes { length solver.old.graph.nodes + 2 ≤ most_nodes }
-    requires room { HasRoom (length solver.old.graph.nodes + 2) solver.old }
-    requires arcs { length solver.old.graph.arcs + 6 ≤ most_arcs }
+    requires room { HasRoomFor 2 6 solver.old }
     ensures come { OnOk result (HaveCome [] roster.old roster.new solver.old solver.new) }
     ensures entered { OnOk result (HasNode solver.new.graph (nodes.Event v)) }
     ensures nodes { OnOk result (length solver.new.graph.nodes ≤ length solver.old.graph.nodes + 2) }
     ensures arcs { OnOk result (length solver.new.graph.arcs ≤ length solver.old.graph.arcs + 6) }
     ensures declaration { roster.new.declaration ≡ roster.old.declaration }
-    ensures extends { OnOk result (Extends solver.old solver.new) }
     ensures steps { OnOk result (TakesFewToPush solver.old solver.new steps.old steps.new) }
 {
     if has_entered(solver, v) {

@@ -8,6 +8,7 @@ ghost use Rattle.problem_graph.specs.Standing.{HasNode};
 ghost use Rattle.roster.specs.Groups.{group_at};
 ghost use Rattle.roster.specs.Readings.{HasStamp};
 ghost use Rattle.roster.specs.Entering.{IsFirstNode, IsLastNode, IsReadingBefore, IsReadingAfter, IsEarlierEnd, IsLaterEnd, AreNearest};
+ghost use Rattle.session_graph.specs.Links.{ShowsNodes};
 
 use crate::nearest::{above, below, is_known};
 use atto::Nano;
@@ -46,7 +47,7 @@ fn leads_back(roster: &Roster, clock: u32) -> bool
 // The first stamp of a clock's nodes.
 fn first_of(roster: &Roster, solver: &Solver, clock: u32) -> Option<Nano>
     requires clock { clock < length roster.now.declaration.clocks }
-    requires nodes { (c t : ℕ) → HasNode solver.now.graph (nodes.Reading c t) → HasStamp (group_at roster.now.readings c) t }
+    requires nodes { ShowsNodes roster.now solver.now.graph }
     ensures some { IfSome result (λ t. IsFirstNode solver.now.graph clock t) }
     ensures none { IfNone result ((t : ℕ) → HasNode solver.now.graph (nodes.Reading clock t) → ⊥) }
 {
@@ -64,7 +65,7 @@ fn first_of(roster: &Roster, solver: &Solver, clock: u32) -> Option<Nano>
 // The last stamp of a clock's nodes.
 fn last_of(roster: &Roster, solver: &Solver, clock: u32) -> Option<Nano>
     requires clock { clock < length roster.now.declaration.clocks }
-    requires nodes { (c t : ℕ) → HasNode solver.now.graph (nodes.Reading c t) → HasStamp (group_at roster.now.readings c) t }
+    requires nodes { ShowsNodes roster.now solver.now.graph }
     ensures some { IfSome result (λ t. IsLastNode solver.now.graph clock t) }
     ensures none { IfNone result ((t : ℕ) → HasNode solver.now.graph (nodes.Reading clock t) → ⊥) }
 {
@@ -81,9 +82,10 @@ fn last_of(roster: &Roster, solver: &Solver, clock: u32) -> Option<Nano>
 // The last reading of the nearest clock before this one that has a node.
 fn before(roster: &Roster, solver: &Solver, place: u32) -> Option<(u32, Nano)>
     requires clock { place < length roster.now.declaration.clocks }
-    requires nodes { (c t : ℕ) → HasNode solver.now.graph (nodes.Reading c t) → HasStamp (group_at roster.now.readings c) t }
+    requires nodes { ShowsNodes roster.now solver.now.graph }
     ensures { (p : ProblemLists) → p.follows ≡ follows_of roster.now.declaration → IsReadingBefore p solver.now.graph place result }
 {
+    // It tells that the roster is lawful.
     let _ = roster.decl();
     let mut clock = place;
     while leads_back(roster, clock) {
@@ -98,10 +100,11 @@ fn before(roster: &Roster, solver: &Solver, place: u32) -> Option<(u32, Nano)>
 // The first reading of the nearest clock after this one that has a node.
 fn after(roster: &Roster, solver: &Solver, place: u32) -> Option<(u32, Nano)>
     requires clock { place < length roster.now.declaration.clocks }
-    requires nodes { (c t : ℕ) → HasNode solver.now.graph (nodes.Reading c t) → HasStamp (group_at roster.now.readings c) t }
+    requires nodes { ShowsNodes roster.now solver.now.graph }
     ensures inside { IfSome result (λ e. e.0 < length roster.now.declaration.clocks) }
     ensures nearest { (p : ProblemLists) → p.follows ≡ follows_of roster.now.declaration → IsReadingAfter p solver.now.graph place result }
 {
+    // It tells that the roster is lawful.
     let _ = roster.decl();
     let mut clock = place;
     while leads_on(roster, clock) {
@@ -122,7 +125,7 @@ fn earlier(
     below: &Option<Nano>,
 ) -> Option<(u32, Nano)>
     requires clock { place < length roster.now.declaration.clocks }
-    requires nodes { (c t : ℕ) → HasNode solver.now.graph (nodes.Reading c t) → HasStamp (group_at roster.now.readings c) t }
+    requires nodes { ShowsNodes roster.now solver.now.graph }
     ensures known { known ≡ true → result ≡ None }
     ensures new { known ≡ false → (p : ProblemLists) → p.follows ≡ follows_of roster.now.declaration → IsEarlierEnd p solver.now.graph place below.now result }
 {
@@ -144,7 +147,7 @@ fn later(
     above: &Option<Nano>,
 ) -> Option<(u32, Nano)>
     requires clock { place < length roster.now.declaration.clocks }
-    requires nodes { (c t : ℕ) → HasNode solver.now.graph (nodes.Reading c t) → HasStamp (group_at roster.now.readings c) t }
+    requires nodes { ShowsNodes roster.now solver.now.graph }
     ensures inside { IfSome result (λ e. e.0 < length roster.now.declaration.clocks) }
     ensures known { known ≡ true → result ≡ None }
     ensures new { known ≡ false → (p : ProblemLists) → p.follows ≡ follows_of roster.now.declaration → IsLaterEnd p solver.now.graph place above.now result }
@@ -169,7 +172,7 @@ pub(crate) fn nearest_of(
 ) -> Nearest
     requires clock { place < length roster.now.declaration.clocks }
     requires shown { HasStamp (group_at roster.now.readings place) stamp }
-    requires nodes { (c t : ℕ) → HasNode solver.now.graph (nodes.Reading c t) → HasStamp (group_at roster.now.readings c) t }
+    requires nodes { ShowsNodes roster.now solver.now.graph }
     requires known { known ≡ true → HasNode solver.now.graph (nodes.Reading place stamp) }
     requires new { known ≡ false → HasNode solver.now.graph (nodes.Reading place stamp) → ⊥ }
     ensures inside { IfSome result.later (λ e. e.0 < length roster.now.declaration.clocks) }

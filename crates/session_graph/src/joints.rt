@@ -11,7 +11,7 @@ ghost use Rattle.solver.specs.Current.{IsCurrent};
 ghost use Rattle.roster.specs.Growing.{IsGrowing};
 ghost use Rattle.session_graph.specs.Kept.{HasArcs};
 ghost use Rattle.session_graph.specs.Pushes.{Brings};
-ghost use Rattle.session_graph.specs.Extensions.{Extends, TakesFewToPush};
+ghost use Rattle.session_graph.specs.Extensions.{TakesFewToPush};
 ghost use Rattle.session_graph.specs.UnderWay.{IsEntering};
 ghost use Rattle.session_graph.specs.Arrivals.{HaveCome};
 
@@ -63,7 +63,6 @@ pub(crate) fn join<L: Ledger>(
     ensures nodes { OnOk result (solver.new.graph.nodes ≡ solver.old.graph.nodes) }
     ensures arcs { OnOk result (length solver.new.graph.arcs ≤ length solver.old.graph.arcs + 2) }
     ensures declaration { roster.new.declaration ≡ roster.old.declaration }
-    ensures extends { OnOk result (Extends solver.old solver.new) }
     ensures steps { OnOk result (TakesFewToPush solver.old solver.new steps.old steps.new) }
 {
     let arc = push_message(solver, message, steps)?;

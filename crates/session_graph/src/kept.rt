@@ -112,7 +112,6 @@ impl KeptGraph {
         make_room(&self.roster, &mut self.solver, events.len() as u32)?;
         let changes = rematch(alloc, &mut self.matcher, self.roster.len(), events)?;
         change(
-            alloc,
             &mut self.roster,
             &mut self.solver,
             label,

@@ -17,9 +17,9 @@ ghost use Rattle.session_graph.specs.Links.{AreThere, AreBeside, bounds_beside};
 ghost use Rattle.session_graph.specs.Extensions.{TakesFewToPush};
 
 use crate::follows::Nearest;
-use crate::pushes::{push_follow, push_span};
+use crate::pushes::{ClockReading, push_follow, push_span};
 use atto::{Nano, Steps};
-use problem_model::Clock;
+use problem::NearestFollow;
 use roster::Roster;
 use solver::Solver;
 use std::alloc::AllocError;
@@ -28,23 +28,28 @@ use std::sync::ledger::Ledger;
 // Brings in both bounds over the span to the stamp below, if there is one.
 fn push_below<L: Ledger>(
     solver: &mut Solver,
-    place: u32,
-    clock: &Clock,
-    stamp: Nano,
+    reading: &ClockReading,
     below: Option<Nano>,
     steps: &mut Steps<L>,
 ) -> Result<(), AllocError>
     requires current { IsCurrent solver.old }
-    requires reading { HasNode solver.old.graph (nodes.Reading place stamp) }
-    requires below { IfSome below (λ s. (s < stamp) × HasNode solver.old.graph (nodes.Reading place s)) }
+    requires reading { HasNode solver.old.graph (nodes.Reading reading.now.place reading.now.stamp) }
+    requires below { IfSome below (λ s. (s < reading.now.stamp) × HasNode solver.old.graph (nodes.Reading reading.now.place s)) }
     requires room { length solver.old.graph.arcs + 2 ≤ most_arcs }
-    ensures brings { OnOk result (Brings (span_below place stamp below) solver.old solver.new) }
+    ensures brings { OnOk result (Brings (span_below reading.now.place reading.now.stamp below) solver.old solver.new) }
     ensures steps { OnOk result (TakesFewToPush solver.old solver.new steps.old steps.new) }
-    ensures left { OnOk result ((p : ProblemLists) (entered : ℕ → Bool) (rest : List Bound) → ClockAt p place clock.now
-        → IsGrowing p entered (span_below place stamp below ++ rest) solver.old.graph → IsGrowing p entered rest solver.new.graph) }
+    ensures left { OnOk result ((p : ProblemLists) (entered : ℕ → Bool) (rest : List Bound) → ClockAt p reading.now.place reading.now.clock
+        → IsGrowing p entered (span_below reading.now.place reading.now.stamp below ++ rest) solver.old.graph → IsGrowing p entered rest solver.new.graph) }
 {
     match below {
-        Some(s) => push_span(solver, place, clock, s, stamp, steps),
+        Some(s) => push_span(
+            solver,
+            reading.place,
+            &reading.clock,
+            s,
+            reading.stamp,
+            steps,
+        ),
         None => Ok(()),
     }
 }
@@ -52,23 +57,28 @@ fn push_below<L: Ledger>(
 // Brings in both bounds over the span to the stamp above, if there is one.
 fn push_above<L: Ledger>(
     solver: &mut Solver,
-    place: u32,
-    clock: &Clock,
-    stamp: Nano,
+    reading: &ClockReading,
     above: Option<Nano>,
     steps: &mut Steps<L>,
 ) -> Result<(), AllocError>
     requires current { IsCurrent solver.old }
-    requires reading { HasNode solver.old.graph (nodes.Reading place stamp) }
-    requires above { IfSome above (λ t. (stamp < t) × HasNode solver.old.graph (nodes.Reading place t)) }
+    requires reading { HasNode solver.old.graph (nodes.Reading reading.now.place reading.now.stamp) }
+    requires above { IfSome above (λ t. (reading.now.stamp < t) × HasNode solver.old.graph (nodes.Reading reading.now.place t)) }
     requires room { length solver.old.graph.arcs + 2 ≤ most_arcs }
-    ensures brings { OnOk result (Brings (span_above place stamp above) solver.old solver.new) }
+    ensures brings { OnOk result (Brings (span_above reading.now.place reading.now.stamp above) solver.old solver.new) }
     ensures steps { OnOk result (TakesFewToPush solver.old solver.new steps.old steps.new) }
-    ensures left { OnOk result ((p : ProblemLists) (entered : ℕ → Bool) (rest : List Bound) → ClockAt p place clock.now
-        → IsGrowing p entered (span_above place stamp above ++ rest) solver.old.graph → IsGrowing p entered rest solver.new.graph) }
+    ensures left { OnOk result ((p : ProblemLists) (entered : ℕ → Bool) (rest : List Bound) → ClockAt p reading.now.place reading.now.clock
+        → IsGrowing p entered (span_above reading.now.place reading.now.stamp above ++ rest) solver.old.graph → IsGrowing p entered rest solver.new.graph) }
 {
     match above {
-        Some(t) => push_span(solver, place, clock, stamp, t, steps),
+        Some(t) => push_span(
+            solver,
+            reading.place,
+            &reading.clock,
+            reading.stamp,
+            t,
+            steps,
+        ),
         None => Ok(()),
     }
 }
@@ -85,25 +95,30 @@ fn gap_of(roster: &Roster, place: u32) -> Nano
 fn push_before<L: Ledger>(
     roster: &Roster,
     solver: &mut Solver,
-    place: u32,
-    stamp: Nano,
+    reading: &ClockReading,
     earlier: Option<(u32, Nano)>,
     steps: &mut Steps<L>,
 ) -> Result<(), AllocError>
-    requires inside { place < length roster.now.declaration.clocks }
+    requires inside { reading.now.place < length roster.now.declaration.clocks }
     requires current { IsCurrent solver.old }
-    requires reading { HasNode solver.old.graph (nodes.Reading place stamp) }
+    requires reading { HasNode solver.old.graph (nodes.Reading reading.now.place reading.now.stamp) }
     requires earlier { IfSome earlier (λ e. HasNode solver.old.graph (nodes.Reading e.0 e.1)) }
-    requires room { length solver.old.graph.arcs + length (follow_before place stamp earlier) ≤ most_arcs }
-    ensures brings { OnOk result (Brings (follow_before place stamp earlier) solver.old solver.new) }
+    requires room { length solver.old.graph.arcs + length (follow_before reading.now.place reading.now.stamp earlier) ≤ most_arcs }
+    ensures brings { OnOk result (Brings (follow_before reading.now.place reading.now.stamp earlier) solver.old solver.new) }
     ensures steps { OnOk result (TakesFewToPush solver.old solver.new steps.old steps.new) }
-    ensures left { OnOk result ((p : ProblemLists) (entered : ℕ → Bool) (rest : List Bound) → p.follows ≡ follows_of roster.now.declaration → IfSome earlier (λ e. ComesAfter p e.0 place)
-        → IsGrowing p entered (follow_before place stamp earlier ++ rest) solver.old.graph → IsGrowing p entered rest solver.new.graph) }
+    ensures left { OnOk result ((p : ProblemLists) (entered : ℕ → Bool) (rest : List Bound) → p.follows ≡ follows_of roster.now.declaration → IfSome earlier (λ e. ComesAfter p e.0 reading.now.place)
+        → IsGrowing p entered (follow_before reading.now.place reading.now.stamp earlier ++ rest) solver.old.graph → IsGrowing p entered rest solver.new.graph) }
 {
     match earlier {
         Some(last) => {
-            let gap = gap_of(roster, place);
-            push_follow(solver, last.0, last.1, place, stamp, gap, steps)
+            let gap = gap_of(roster, reading.place);
+            let nearest = NearestFollow {
+                earlier: last.0,
+                s: last.1,
+                t: reading.stamp,
+                gap,
+            };
+            push_follow(solver, &nearest, reading.place, steps)
         }
         None => Ok(()),
     }
@@ -113,25 +128,30 @@ fn push_before<L: Ledger>(
 fn push_after<L: Ledger>(
     roster: &Roster,
     solver: &mut Solver,
-    place: u32,
-    stamp: Nano,
+    reading: &ClockReading,
     later: Option<(u32, Nano)>,
     steps: &mut Steps<L>,
 ) -> Result<(), AllocError>
     requires inside { IfSome later (λ e. e.0 < length roster.now.declaration.clocks) }
     requires current { IsCurrent solver.old }
-    requires reading { HasNode solver.old.graph (nodes.Reading place stamp) }
+    requires reading { HasNode solver.old.graph (nodes.Reading reading.now.place reading.now.stamp) }
     requires later { IfSome later (λ e. HasNode solver.old.graph (nodes.Reading e.0 e.1)) }
-    requires room { length solver.old.graph.arcs + length (follow_after place stamp later) ≤ most_arcs }
-    ensures brings { OnOk result (Brings (follow_after place stamp later) solver.old solver.new) }
+    requires room { length solver.old.graph.arcs + length (follow_after reading.now.place reading.now.stamp later) ≤ most_arcs }
+    ensures brings { OnOk result (Brings (follow_after reading.now.place reading.now.stamp later) solver.old solver.new) }
     ensures steps { OnOk result (TakesFewToPush solver.old solver.new steps.old steps.new) }
-    ensures left { OnOk result ((p : ProblemLists) (entered : ℕ → Bool) (rest : List Bound) → p.follows ≡ follows_of roster.now.declaration → IfSome later (λ e. ComesAfter p place e.0)
-        → IsGrowing p entered (follow_after place stamp later ++ rest) solver.old.graph → IsGrowing p entered rest solver.new.graph) }
+    ensures left { OnOk result ((p : ProblemLists) (entered : ℕ → Bool) (rest : List Bound) → p.follows ≡ follows_of roster.now.declaration → IfSome later (λ e. ComesAfter p reading.now.place e.0)
+        → IsGrowing p entered (follow_after reading.now.place reading.now.stamp later ++ rest) solver.old.graph → IsGrowing p entered rest solver.new.graph) }
 {
     match later {
         Some(first) => {
             let gap = gap_of(roster, first.0);
-            push_follow(solver, place, stamp, first.0, first.1, gap, steps)
+            let nearest = NearestFollow {
+                earlier: reading.place,
+                s: reading.stamp,
+                t: first.1,
+                gap,
+            };
+            push_follow(solver, &nearest, first.0, steps)
         }
         None => Ok(()),
     }
@@ -141,25 +161,23 @@ fn push_after<L: Ledger>(
 pub(crate) fn push_links<L: Ledger>(
     roster: &Roster,
     solver: &mut Solver,
-    place: u32,
-    clock: &Clock,
-    stamp: Nano,
+    reading: &ClockReading,
     nearest: &Nearest,
     steps: &mut Steps<L>,
 ) -> Result<(), AllocError>
-    requires inside { place < length roster.now.declaration.clocks }
+    requires inside { reading.now.place < length roster.now.declaration.clocks }
     requires current { IsCurrent solver.old }
-    requires reading { HasNode solver.old.graph (nodes.Reading place stamp) }
-    requires there { AreThere (length roster.now.declaration.clocks) solver.old.graph place stamp nearest.now }
+    requires reading { HasNode solver.old.graph (nodes.Reading reading.now.place reading.now.stamp) }
+    requires there { AreThere (length roster.now.declaration.clocks) solver.old.graph reading.now.place reading.now.stamp nearest.now }
     requires room { length solver.old.graph.arcs + 4 ≤ most_arcs }
-    ensures brings { OnOk result (Brings (bounds_beside place stamp nearest.now) solver.old solver.new) }
+    ensures brings { OnOk result (Brings (bounds_beside reading.now.place reading.now.stamp nearest.now) solver.old solver.new) }
     ensures steps { OnOk result (TakesFewToPush solver.old solver.new steps.old steps.new) }
-    ensures left { OnOk result ((p : ProblemLists) (entered : ℕ → Bool) (rest : List Bound) → ClockAt p place clock.now → p.follows ≡ follows_of roster.now.declaration → AreBeside p place nearest.now
-        → IsGrowing p entered (bounds_beside place stamp nearest.now ++ rest) solver.old.graph → IsGrowing p entered rest solver.new.graph) }
+    ensures left { OnOk result ((p : ProblemLists) (entered : ℕ → Bool) (rest : List Bound) → ClockAt p reading.now.place reading.now.clock → p.follows ≡ follows_of roster.now.declaration → AreBeside p reading.now.place nearest.now
+        → IsGrowing p entered (bounds_beside reading.now.place reading.now.stamp nearest.now ++ rest) solver.old.graph → IsGrowing p entered rest solver.new.graph) }
 {
-    push_below(solver, place, clock, stamp, nearest.below, steps)?;
-    push_above(solver, place, clock, stamp, nearest.above, steps)?;
-    push_before(roster, solver, place, stamp, nearest.earlier, steps)?;
-    push_after(roster, solver, place, stamp, nearest.later, steps)?;
+    push_below(solver, reading, nearest.below, steps)?;
+    push_above(solver, reading, nearest.above, steps)?;
+    push_before(roster, solver, reading, nearest.earlier, steps)?;
+    push_after(roster, solver, reading, nearest.later, steps)?;
     Ok(())
 }

@@ -1,10 +1,11 @@
 // The nearest nodes of a new reading.
-ghost use Rattle.std.specs.Prelude.{◌≡◌, ◌<◌, ℕ, true, false, Option, Some, None, length, slice_get, IfSome};
+ghost use Rattle.std.specs.Prelude.{◌≡◌, ◌<◌, true, false, Option, Some, None, length, slice_get, IfSome};
 ghost use Rattle.problem_model.specs.declared.items.Node.TheVariants as nodes;
 ghost use Rattle.problem_graph.specs.Standing.{HasNode};
 ghost use Rattle.roster.specs.Groups.{group_at};
 ghost use Rattle.roster.specs.Readings.{HasStamp};
 ghost use Rattle.roster.specs.Entering.{IsStampBelow, IsStampAbove};
+ghost use Rattle.session_graph.specs.Links.{ShowsNodes};
 
 use atto::Nano;
 use problem_model::Node;
@@ -26,7 +27,7 @@ pub(crate) fn is_known(solver: &Solver, place: u32, stamp: Nano) -> bool
 fn stamp_below(roster: &Roster, solver: &Solver, place: u32, stamp: Nano) -> Option<Nano>
     requires clock { place < length roster.now.declaration.clocks }
     requires shown { HasStamp (group_at roster.now.readings place) stamp }
-    requires nodes { (t : ℕ) → HasNode solver.now.graph (nodes.Reading place t) → HasStamp (group_at roster.now.readings place) t }
+    requires nodes { ShowsNodes roster.now solver.now.graph }
     ensures { IsStampBelow solver.now.graph place stamp result }
 {
     let mut last = roster.stamp_below(place, stamp);
@@ -43,7 +44,7 @@ fn stamp_below(roster: &Roster, solver: &Solver, place: u32, stamp: Nano) -> Opt
 fn stamp_above(roster: &Roster, solver: &Solver, place: u32, stamp: Nano) -> Option<Nano>
     requires clock { place < length roster.now.declaration.clocks }
     requires shown { HasStamp (group_at roster.now.readings place) stamp }
-    requires nodes { (t : ℕ) → HasNode solver.now.graph (nodes.Reading place t) → HasStamp (group_at roster.now.readings place) t }
+    requires nodes { ShowsNodes roster.now solver.now.graph }
     ensures { IsStampAbove solver.now.graph place stamp result }
 {
     let mut next = roster.stamp_above(place, stamp);
@@ -78,7 +79,7 @@ pub(crate) fn below(
 ) -> Option<Nano>
     requires clock { place < length roster.now.declaration.clocks }
     requires shown { HasStamp (group_at roster.now.readings place) stamp }
-    requires nodes { (t : ℕ) → HasNode solver.now.graph (nodes.Reading place t) → HasStamp (group_at roster.now.readings place) t }
+    requires nodes { ShowsNodes roster.now solver.now.graph }
     ensures known { known ≡ true → result ≡ None }
     ensures new { known ≡ false → IsStampBelow solver.now.graph place stamp result }
 {
@@ -100,7 +101,7 @@ pub(crate) fn above(
 ) -> Option<Nano>
     requires clock { place < length roster.now.declaration.clocks }
     requires shown { HasStamp (group_at roster.now.readings place) stamp }
-    requires nodes { (t : ℕ) → HasNode solver.now.graph (nodes.Reading place t) → HasStamp (group_at roster.now.readings place) t }
+    requires nodes { ShowsNodes roster.now solver.now.graph }
     ensures known { known ≡ true → result ≡ None }
     ensures new { known ≡ false → IsStampAbove solver.now.graph place stamp result }
 {

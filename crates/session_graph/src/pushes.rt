@@ -26,6 +26,14 @@ use std::alloc::AllocError;
 use std::sync::ledger::Ledger;
 use sync_graph::Arc;
 
+/// A reading of a clock: the place of the clock, the clock, and the stamp that it showed.
+#[derive(Clone, Copy)]
+pub(crate) struct ClockReading {
+    pub place: u32,
+    pub clock: Clock,
+    pub stamp: Nano,
+}
+
 /// The number of a node that is there.
 pub(crate) fn number_of(solver: &Solver, n: Node) -> u32
     requires { HasNode solver.now.graph n }
@@ -98,54 +106,55 @@ pub(crate) fn push_span<L: Ledger>(
     push_arcs(solver, arcs, steps)
 }
 
-/// Brings in both bounds on the stamp of an event, which stands on the clock at a place.
+/// Brings in both bounds on the stamp of an event, which is that of a reading.
 pub(crate) fn push_stamp<L: Ledger>(
     solver: &mut Solver,
     v: u32,
-    place: u32,
-    clock: &Clock,
-    stamp: Nano,
+    reading: &ClockReading,
     steps: &mut Steps<L>,
 ) -> Result<(), AllocError>
     requires current { IsCurrent solver.old }
-    requires from { HasNode solver.old.graph (nodes.Reading place stamp) }
+    requires from { HasNode solver.old.graph (nodes.Reading reading.now.place reading.now.stamp) }
     requires to { HasNode solver.old.graph (nodes.Event v) }
     requires room { length solver.old.graph.arcs + 2 ≤ most_arcs }
     ensures brings { OnOk result (Brings (Late v ∷ Early v ∷ []) solver.old solver.new) }
     ensures steps { OnOk result (TakesFewToPush solver.old solver.new steps.old steps.new) }
     ensures left { OnOk result ((p : ProblemLists) (entered : ℕ → Bool) (rest : List Bound) (e : Event)
-        → EventAt p v e → e.clock ≡ place → e.stamp ≡ stamp → ClockAt p place clock.now
+        → EventAt p v e → e.clock ≡ reading.now.place → e.stamp ≡ reading.now.stamp → ClockAt p reading.now.place reading.now.clock
         → IsGrowing p entered (Late v ∷ Early v ∷ rest) solver.old.graph → IsGrowing p entered rest solver.new.graph) }
 {
-    let reading = number_of(solver, Node::Reading(place, stamp));
-    let event = number_of(solver, Node::Event(v));
-    let arcs = stamp_arcs(v, place, clock, stamp, reading, event);
+    let first = number_of(solver, Node::Reading(reading.place, reading.stamp));
+    let second = number_of(solver, Node::Event(v));
+    let arcs = stamp_arcs(
+        v,
+        reading.place,
+        &reading.clock,
+        reading.stamp,
+        first,
+        second,
+    );
     push_arcs(solver, arcs, steps)
 }
 
 /// Brings in the bound from a reading of a clock to one of another that comes before it, by the later one's gap.
 pub(crate) fn push_follow<L: Ledger>(
     solver: &mut Solver,
-    earlier: u32,
-    s: Nano,
+    follow: &NearestFollow,
     later: u32,
-    t: Nano,
-    gap: Nano,
     steps: &mut Steps<L>,
 ) -> Result<(), AllocError>
     requires current { IsCurrent solver.old }
-    requires from { HasNode solver.old.graph (nodes.Reading later t) }
-    requires to { HasNode solver.old.graph (nodes.Reading earlier s) }
+    requires from { HasNode solver.old.graph (nodes.Reading later follow.now.t) }
+    requires to { HasNode solver.old.graph (nodes.Reading follow.now.earlier follow.now.s) }
     requires room { length solver.old.graph.arcs + 1 ≤ most_arcs }
-    ensures brings { OnOk result (Brings (bounds.Follow earlier s later t ∷ []) solver.old solver.new) }
+    ensures brings { OnOk result (Brings (bounds.Follow follow.now.earlier follow.now.s later follow.now.t ∷ []) solver.old solver.new) }
     ensures steps { OnOk result (TakesFewToPush solver.old solver.new steps.old steps.new) }
     ensures left { OnOk result ((p : ProblemLists) (entered : ℕ → Bool) (rest : List Bound) (f : Follow)
-        → Contains p.follows f → f.later ≡ later → f.gap ≡ gap → ComesAfter p earlier later
-        → IsGrowing p entered (bounds.Follow earlier s later t ∷ rest) solver.old.graph → IsGrowing p entered rest solver.new.graph) }
+        → Contains p.follows f → f.later ≡ later → f.gap ≡ follow.now.gap → ComesAfter p follow.now.earlier later
+        → IsGrowing p entered (bounds.Follow follow.now.earlier follow.now.s later follow.now.t ∷ rest) solver.old.graph → IsGrowing p entered rest solver.new.graph) }
 {
-    let first = number_of(solver, Node::Reading(earlier, s));
-    let second = number_of(solver, Node::Reading(later, t));
-    let nearest = NearestFollow { earlier, s, t, gap };
-    let arcs = follow_arcs(&nearest, later, first, second);
+    let first = number_of(solver, Node::Reading(follow.earlier, follow.s));
+    let second = number_of(solver, Node::Reading(later, follow.t));
+    let arcs = follow_arcs(follow, later, first, second);
     push_arcs(solver, arcs, steps)
 }

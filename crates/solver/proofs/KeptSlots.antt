@@ -19,14 +19,15 @@ pub rows_as_before : (slots : List Slot) (pool : Pool) → ChangesRowsOf slots p
 rows_as_before slots pool = record { width = refl; count = refl; taken = λ k. refl; others = λ k misses. refl }
 
 pub keeps_slots : (old new : SolverLists) → new.kept.slots ≡ old.kept.slots → new.kept.source ≡ old.kept.source → new.kept.room ≡ old.kept.room → new.front ≡ old.front
-    → ChangesRowsOf (all_slots old.kept) old.pool new.pool → KeepsSlots old new
-keeps_slots old new slots source found front rows = record {
+    → ChangesRowsOf (all_slots old.kept) old.pool new.pool → IsCurrent new → KeepsSlots old new
+keeps_slots old new slots source found front rows current = record {
   slots = slots;
   source = source;
   found = found;
   front = front;
   rows = rows;
   free = free_same new.pool.rows old.pool.rows rows.count rows.taken;
+  current = current;
 }
 
 -- whatever becomes of the graph in between
@@ -38,6 +39,7 @@ keeps_after old mid new kept pool front keeps = record {
   front = keeps.front ∙ front;
   rows = subst (λ (k : KeptRows). ChangesRowsOf (all_slots k) old.pool new.pool) kept (subst (λ (p : Pool). ChangesRowsOf (all_slots mid.kept) p new.pool) pool keeps.rows);
   free = keeps.free ∙ ap free_rows pool;
+  current = keeps.current;
 }
 
 -- ---- slots that come

@@ -9,7 +9,7 @@ use Rattle.earliest.specs.Steps.{differing_sum}
 use Rattle.row_pool.specs.Pool.{Pool}
 use Rattle.distances.specs.declared.side.Side.TheVariants.{From}
 use Rattle.distances.specs.Searched.{Searched}
-use Rattle.repair.specs.Slots.{KeptRows, with_presence, all_slots, AreOwnRows, AreRowsOf, AreNodes, ChangesRowsOf}
+use Rattle.repair.specs.Slots.{KeptRows, with_presence, with_found, all_slots, AreOwnRows, AreRowsOf, AreNodes, ChangesRowsOf}
 use Rattle.repair.specs.Renewals.{CanRenew, insertion_steps}
 use Rattle.solver.specs.Solver.{SolverLists, HasRoom}
 use Rattle.solver.specs.Current.{IsSetUp, IsCurrent}
@@ -32,8 +32,8 @@ module _ (s : SolverLists) (r : Searched) (is : r ≡ search_from s.graph s.earl
       subst (λ (x : Searched). CanRenew x pool front) (sym is) (record { outward = refl; rows = omega (arith, rows, wide); queue = omega (arith, queue, long) })
 
 -- all rows were renewed where an execution exists
-pub renewed : (s : SolverLists) → IsSetUp s → (e : Values) (cycle : List Arc) (pool : Pool) (kept : KeptRows) (front : ℕ)
-    → length e.values ≡ length s.graph.nodes → e.is_solved ≡ true → IsEarliestOf s.graph e.values → cycle ≡ [] → kept ≡ with_presence s.kept true → AreOwnRows kept pool
+pub renewed : {found : List ℕ} (s : SolverLists) → IsSetUp s → (e : Values) (cycle : List Arc) (pool : Pool) (kept : KeptRows) (front : ℕ)
+    → length e.values ≡ length s.graph.nodes → e.is_solved ≡ true → IsEarliestOf s.graph e.values → cycle ≡ [] → kept ≡ with_found (with_presence s.kept true) found → AreOwnRows kept pool
     → AreRowsOf s.graph kept pool → ChangesRowsOf (all_slots s.kept) s.pool pool → front ≡ s.front
     → IsCurrent (record { graph = s.graph; earliest = e; contradiction = cycle; pool = pool; kept = kept; front = front })
 renewed s set_up e cycle pool kept front one_each solved earliest none slots own rows others long =

@@ -11,7 +11,7 @@ use Rattle.row_pool.specs.Pool.{Pool, grown}
 use Rattle.repair.specs.Slots.{KeptRows, with_room, AreOwnRows, AreRowsOf, AreNodes}
 use Rattle.solver.specs.Solver.{SolverLists}
 use Rattle.solver.specs.Current.{IsSolvedNow, IsContradicted, IsSetUp, IsCurrent}
-use Rattle.solver.specs.Changes.{LeavesAnswer}
+use Rattle.solver.specs.Changes.{StaysCurrent, LeavesAnswer}
 
 -- ---- other rows, another room
 -- the same graph and answer, with these rows and a frontier with this room
@@ -48,6 +48,10 @@ module _ (s : SolverLists) (current : IsCurrent s) (pool : Pool) (kept : KeptRow
         | inr held ↦ inr (record { unsolved = held.unsolved; cycle = held.cycle; absent = present ∙ held.absent })
       ];
     }
+
+-- other rows are held, and the graph with what is known of it stays
+pub stays_with_rows : (s : SolverLists) (pool : Pool) (kept : KeptRows) (front : ℕ) → front ≡ s.front → IsCurrent (with_rows s pool kept front) → StaysCurrent s (with_rows s pool kept front)
+stays_with_rows s pool kept front room current = record { answer = record { graph = refl; earliest = refl; contradiction = refl }; room = room; current = current }
 
 -- where nothing is done all stays
 pub leaves_all : (s : SolverLists) → IsCurrent s → LeavesAnswer s s

@@ -27,7 +27,7 @@ pub record HasRoom (nodes : ℕ) (s : SolverLists) : Type 0 where
 abbrev pub with_new_node : SolverLists → Node → SolverLists
 with_new_node s n = record {
   graph = with_node s.graph n;
-  earliest = record { values = s.earliest.values ++ pos 0 ∷ []; is_solved = s.earliest.is_solved };
+  earliest = record { values = s.earliest.values ++ pos 0 ∷ []; is_solved = s.earliest.is_solved; workspace = s.earliest.workspace ++ 0 ∷ [] };
   contradiction = s.contradiction;
   pool = s.pool;
   kept = s.kept;

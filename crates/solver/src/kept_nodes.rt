@@ -4,7 +4,7 @@ ghost use Rattle.row_pool.specs.Pool.{free_rows};
 ghost use Rattle.repair.specs.declared.slot.Slot as slots;
 ghost use Rattle.repair.specs.Slots.{slot_of};
 ghost use Rattle.repair.specs.Keeping.{TakesRows, with_slot, with_source, IsSlotNumber, IsKeepRefused};
-ghost use Rattle.solver.specs.Changes.{KeepsAnswer};
+ghost use Rattle.solver.specs.Changes.{StaysCurrent};
 ghost use Rattle.solver.specs.Current.{IsCurrent};
 
 use crate::search::search_of;
@@ -32,9 +32,7 @@ impl Solver {
         ensures free { OnOk result (free_rows self.new.pool + 2 ≡ free_rows self.old.pool) }
         ensures refused { IfErr result (IsKeepRefused self.old.kept node) }
         ensures err { OnErr result ((self.new.kept ≡ self.old.kept) × (self.new.pool ≡ self.old.pool)) }
-        ensures answer { KeepsAnswer self.old self.new }
-        ensures room { self.new.front ≡ self.old.front }
-        ensures current { IsCurrent self.new }
+        ensures leaves { StaysCurrent self.old self.new }
     {
         let search = search_of(&self.graph, &self.earliest);
         let pool = &mut self.pool;
@@ -49,9 +47,7 @@ impl Solver {
         requires free { 2 ≤ free_rows self.old.pool }
         ensures takes { (slot : slots.Slot) × (slot.node ≡ node) × (self.new.kept ≡ with_source self.old.kept slot) × TakesRows self.old.pool self.new.pool slot }
         ensures free { free_rows self.new.pool + 2 ≡ free_rows self.old.pool }
-        ensures answer { KeepsAnswer self.old self.new }
-        ensures room { self.new.front ≡ self.old.front }
-        ensures current { IsCurrent self.new }
+        ensures leaves { StaysCurrent self.old self.new }
     {
         let search = search_of(&self.graph, &self.earliest);
         let pool = &mut self.pool;

@@ -6,7 +6,7 @@ ghost use Rattle.sync_graph.specs.Graph.{table_of};
 ghost use Rattle.row_pool.specs.Row.{cells_of};
 ghost use Rattle.row_pool.specs.Pool.{free_rows, marked};
 ghost use Rattle.repair.specs.Keeping.{TakesRows};
-ghost use Rattle.solver.specs.Changes.{KeepsAnswer};
+ghost use Rattle.solver.specs.Changes.{StaysCurrent};
 ghost use Rattle.solver.specs.Current.{IsCurrent};
 ghost use Rattle.solver.specs.Lending.{IsLent, AreRowsFor, lent_slot};
 
@@ -36,10 +36,8 @@ impl Solver {
         ensures rows { AreRowsFor p result self.new }
         ensures takes { TakesRows self.old.pool self.new.pool (lent_slot p result) }
         ensures free { free_rows self.new.pool + 2 ≡ free_rows self.old.pool }
-        ensures answer { KeepsAnswer self.old self.new }
+        ensures leaves { StaysCurrent self.old self.new }
         ensures kept { self.new.kept ≡ self.old.kept }
-        ensures room { self.new.front ≡ self.old.front }
-        ensures current { IsCurrent self.new }
     {
         let search = search_of(&self.graph, &self.earliest);
         let pool = &mut self.pool;
@@ -69,10 +67,8 @@ impl Solver {
         requires lent { IsLent lent self.old }
         ensures pool { self.new.pool ≡ marked (marked self.old.pool lent.from false) lent.to false }
         ensures free { free_rows self.new.pool ≡ free_rows self.old.pool + 2 }
-        ensures answer { KeepsAnswer self.old self.new }
+        ensures leaves { StaysCurrent self.old self.new }
         ensures kept { self.new.kept ≡ self.old.kept }
-        ensures room { self.new.front ≡ self.old.front }
-        ensures current { IsCurrent self.new }
     {
         self.pool.give(lent.from);
         self.pool.give(lent.to);

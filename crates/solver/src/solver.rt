@@ -47,8 +47,10 @@ impl Solver {
         ensures rows { result.pool.rows ≡ [] }
         ensures current { IsCurrent result }
     {
+        // It tells what holds of a graph that has grown.
         growth();
         let graph = Graph::new(alloc);
+        // It tells what the lists of the graph hold.
         graph.exact();
         Solver {
             alloc,
@@ -73,6 +75,7 @@ impl Solver {
         ensures answer { KeepsAnswer self.old self.new }
         ensures current { IsCurrent self.new }
     {
+        // It tells that rows stay those of a pool that has grown.
         rows_in_a_grown_pool();
         self.queue.reserve(nodes)?;
         self.kept.reserve(nodes)?;

@@ -1,10 +1,10 @@
 // Arcs that go.
-ghost use Rattle.std.specs.Prelude.{◌≡◌, ◌≢◌, ◌<◌, ◌++◌, ◌∷◌, [], ℤ, List, false, true, All, AllPairs, Contains, length, slice_index_or, IfOk, OnOk};
+ghost use Rattle.std.specs.Prelude.{◌≡◌, ◌≢◌, ◌<◌, ◌++◌, ◌∷◌, [], ℤ, List, false, true, All, Contains, length, IfOk, OnOk};
 ghost use Rattle.sync_graph.specs.Graph.{arc_at};
 ghost use Rattle.sync_graph.specs.InForce.{IsEarliestOf};
 ghost use Rattle.earliest.specs.Withdrawn.{IsEarliestWith};
 ghost use Rattle.repair.specs.RowWithdrawals.{AreWithdrawn};
-ghost use Rattle.solver.specs.Changes.{KeepsSlots, withdrawn};
+ghost use Rattle.solver.specs.Changes.{KeepsSlots, AreInForce, AreTakenOut};
 ghost use Rattle.solver.specs.Costs.{TakesFewToWithdrawAll};
 ghost use Rattle.solver.specs.Current.{IsCurrent, IsSetUp};
 ghost use Rattle.solver.specs.Withdrawn.{arcs_numbered, IsCutDown};
@@ -36,12 +36,8 @@ impl Solver {
         steps: &mut Steps<L>,
     ) -> Result<(), AllocError>
         requires current { IsCurrent self.old }
-        requires in_force { All (λ k. slice_index_or self.old.graph.in_force k false ≡ true) numbers.now }
-        requires differ { AllPairs (λ j k. j ≢ k) numbers.now }
-        ensures nodes { self.new.graph.nodes ≡ self.old.graph.nodes }
-        ensures arcs { self.new.graph.arcs ≡ self.old.graph.arcs }
-        ensures in_force { self.new.graph.in_force ≡ withdrawn self.old.graph.in_force numbers.now }
-        ensures current { OnOk result (IsCurrent self.new) }
+        requires numbers { AreInForce self.old.graph numbers.now }
+        ensures graph { AreTakenOut numbers.now self.old.graph self.new.graph }
         ensures slots { OnOk result (KeepsSlots self.old self.new) }
         ensures solved { self.old.earliest.is_solved ≡ true → OnOk result (self.new.earliest.is_solved ≡ true) }
         ensures steps { self.old.earliest.is_solved ≡ true
@@ -62,15 +58,12 @@ impl Solver {
     fn loosen<L: Ledger>(&mut self, numbers: &[u32], steps: &mut Steps<L>) -> Result<(), AllocError>
         requires current { IsCurrent self.old }
         requires unsolved { self.old.earliest.is_solved ≡ false }
-        requires in_force { All (λ k. slice_index_or self.old.graph.in_force k false ≡ true) numbers.now }
-        requires differ { AllPairs (λ j k. j ≢ k) numbers.now }
-        ensures nodes { self.new.graph.nodes ≡ self.old.graph.nodes }
-        ensures arcs { self.new.graph.arcs ≡ self.old.graph.arcs }
-        ensures in_force { self.new.graph.in_force ≡ withdrawn self.old.graph.in_force numbers.now }
-        ensures current { OnOk result (IsCurrent self.new) }
+        requires numbers { AreInForce self.old.graph numbers.now }
+        ensures graph { AreTakenOut numbers.now self.old.graph self.new.graph }
         ensures slots { OnOk result (KeepsSlots self.old self.new) }
     {
         take_out(&mut self.graph, numbers);
+        // It tells what the lists of the graph hold.
         self.graph.exact();
         if !are_met(&self.graph, numbers, &self.contradiction) {
             return Ok(());
@@ -87,19 +80,17 @@ impl Solver {
     ) -> Result<(), AllocError>
         requires current { IsCurrent self.old }
         requires solved { self.old.earliest.is_solved ≡ true }
-        requires in_force { All (λ k. slice_index_or self.old.graph.in_force k false ≡ true) numbers.now }
-        requires differ { AllPairs (λ j k. j ≢ k) numbers.now }
-        ensures nodes { self.new.graph.nodes ≡ self.old.graph.nodes }
-        ensures arcs { self.new.graph.arcs ≡ self.old.graph.arcs }
-        ensures in_force { self.new.graph.in_force ≡ withdrawn self.old.graph.in_force numbers.now }
-        ensures current { OnOk result (IsCurrent self.new) }
+        requires numbers { AreInForce self.old.graph numbers.now }
+        ensures graph { AreTakenOut numbers.now self.old.graph self.new.graph }
         ensures slots { OnOk result (KeepsSlots self.old self.new) }
         ensures solved { OnOk result (self.new.earliest.is_solved ≡ true) }
         ensures steps { TakesFewToWithdrawAll self.old self.new (arcs_numbered self.old.graph numbers.now) steps.old steps.new }
     {
+        // It tells what the lists of the graph hold.
         self.graph.exact();
         let listed = list_arcs(self.alloc, &self.graph, numbers);
         take_out(&mut self.graph, numbers);
+        // It tells what the lists of the graph hold.
         self.graph.exact();
         let removed = listed?;
         self.repair(&removed, steps);
@@ -110,7 +101,6 @@ impl Solver {
     fn repair<L: Ledger>(&mut self, removed: &[Arc], steps: &mut Steps<L>)
         requires { IsCutDown removed.now self.old }
         ensures graph { self.new.graph ≡ self.old.graph }
-        ensures current { IsCurrent self.new }
         ensures slots { KeepsSlots self.old self.new }
         ensures solved { self.new.earliest.is_solved ≡ true }
         ensures steps { TakesFewToWithdrawAll self.old self.new removed.now steps.old steps.new }
@@ -127,7 +117,6 @@ impl Solver {
     fn make_anew<L: Ledger>(&mut self, steps: &mut Steps<L>) -> Result<(), AllocError>
         requires { IsSetUp self.old }
         ensures graph { self.new.graph ≡ self.old.graph }
-        ensures current { OnOk result (IsCurrent self.new) }
         ensures slots { OnOk result (KeepsSlots self.old self.new) }
     {
         match self.earliest.rebuild(&self.graph, &mut self.queue, steps)? {
@@ -143,7 +132,6 @@ impl Solver {
         requires solved { self.old.earliest.is_solved ≡ true }
         requires earliest { IsEarliestOf self.old.graph self.old.earliest.values }
         ensures graph { self.new.graph ≡ self.old.graph }
-        ensures current { IsCurrent self.new }
         ensures slots { KeepsSlots self.old self.new }
     {
         self.contradiction.clear();
@@ -183,19 +171,18 @@ fn list_arc(arcs: &mut Vec<Arc>, g: &Graph, number: u32) -> Result<(), AllocErro
 
 // Takes the arcs of these numbers out of force.
 fn take_out(g: &mut Graph, numbers: &[u32])
-    requires in_force { All (λ k. slice_index_or g.old.in_force k false ≡ true) numbers.now }
-    requires differ { AllPairs (λ j k. j ≢ k) numbers.now }
-    ensures nodes { g.new.nodes ≡ g.old.nodes }
-    ensures arcs { g.new.arcs ≡ g.old.arcs }
-    ensures in_force { g.new.in_force ≡ withdrawn g.old.in_force numbers.now }
+    requires numbers { AreInForce g.old numbers.now }
+    ensures graph { AreTakenOut numbers.now g.old g.new }
     ensures values { (values : List ℤ) → IsEarliestOf g.old values → IsEarliestWith g.new (arcs_numbered g.old numbers.now) values }
     ensures rows { AreWithdrawn g.old (arcs_numbered g.old numbers.now) g.new }
 {
+    // They tell what is left where arcs are withdrawn, which arcs are withdrawn, and what the lists of the graph hold.
     removals();
     withdrawals();
     g.exact();
     for k in numbers {
         g.withdraw(*k);
+        // It tells what the lists of the graph hold.
         g.exact();
     }
 }

@@ -2,7 +2,7 @@ use Rattle.std.proofs.Common.{◌≡◌, ◌∙◌, ◌<◌, ℕ, Bool, Option, 
 use Rattle.std.specs.Prelude.{IfSome, IsTrue}
 use Rattle.decl.specs.Declaration.{Declaration, IsSource}
 use Rattle.roster.specs.Roster.{listed}
-use Rattle.session_answers.specs.Ready.{KeepsSource, answers_problem}
+use Rattle.session_answers.specs.Ready.{KeepsSource, answers_problem, declared}
 use Rattle.session_answers.specs.Keeping.{clock_at}
 use Rattle.session_answers.proofs.Engines.{source_inside, spare_source}
 use Rattle.session_answers.proofs.Entering.{some_of, known_source, other_source, no_source_slot, looked_for}
@@ -27,7 +27,7 @@ returns-then-not-is_on_source-clause-ready g c = λ seen kept are.
 
 pub keep_source-answers-requires-clause-clock : goal.keep_source-answers-requires-clause-clock
 keep_source-answers-requires-clause-clock g c =
-    source_inside _ _ (subst (λ (d : Declaration). IfSome d.source (IsSource c.args.answers.now.graph.roster.declaration.clocks)) (sym c.decl-decl.ensures.same) c.decl-decl.ensures.lawful.declared.clocks.source_true)
+    source_inside _ _ (subst (λ (d : Declaration). IfSome d.source (IsSource (declared c.args.answers.now).clocks)) (sym c.decl-decl.ensures.same) c.decl-decl.ensures.lawful.declared.clocks.source_true)
 
 pub keep_source-answers-requires-clause-solution : goal.keep_source-answers-requires-clause-solution
 keep_source-answers-requires-clause-solution g c = (answers_problem c.args.answers.now c.requires.so_far.0, c.requires.so_far.2.graph.solution)

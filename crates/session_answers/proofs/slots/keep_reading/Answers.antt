@@ -23,7 +23,7 @@ returns-in-Some-clause-slots g c = ap (λ (k : KeptRows). k.slots) c.keep_source
 pub returns-in-Some-clause-takes : goal.returns-in-Some-clause-takes
 returns-in-Some-clause-takes g c =
     let t = c.keep_source.ensures.takes in
-    inl ((t.0, ap (λ (k : KeptRows). k.source) t.2), record { answer = c.keep_source.ensures.answer; current = c.keep_source.ensures.current; count = t.3.count; free = c.keep_source.ensures.free })
+    inl ((t.0, ap (λ (k : KeptRows). k.source) t.2), record { answer = c.keep_source.ensures.leaves.answer; current = c.keep_source.ensures.leaves.current; count = t.3.count; free = c.keep_source.ensures.free })
 
 pub returns-in-None-clause-source : goal.returns-in-None-clause-source
 returns-in-None-clause-source g c = λ p is. (

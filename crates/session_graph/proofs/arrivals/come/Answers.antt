@@ -12,7 +12,7 @@ use Rattle.session_graph.specs.Plans.{turn_numbers, messages_in}
 use Rattle.solver.specs.Solver.{SolverLists}
 use Rattle.session_graph.specs.Extensions.{TakesFewToPush}
 use Rattle.session_graph.specs.Arrivals.{HaveCome}
-use Rattle.session_graph.proofs.Extending.{extends_itself, extends_then, few_then, few_none}
+use Rattle.session_graph.proofs.Extending.{few_then, few_none}
 use Rattle.session_graph.proofs.InARow.{come_none, come_event, come_next, own_from, room_less, StandsAt, stands_as}
 use Rattle.session_graph.proofs.Orders.{all_stand, drop_all, of_due}
 use Rattle.session_graph.proofs.arrivals.come.Goals as goal
@@ -33,7 +33,6 @@ loop-k-init g c =
         nodes = omega arith;
         arcs = omega arith;
         declaration = refl;
-        extends = extends_itself s;
       };
       steps = few_none s c.args.steps.now;
     }
@@ -96,7 +95,7 @@ join-requires-clause-arcs g c =
       | inr past ↦ omega (arith, sum, next, on, past)
     ] in
     let arcs = c.loop-k.invariant.at.arcs in
-    let most = c.requires.arcs in
+    let most = c.requires.room.arcs in
     omega (arith, some, arcs, most, next)
 
 pub enter-requires-clause-inside : goal.enter-requires-clause-inside
@@ -105,27 +104,20 @@ enter-requires-clause-inside g c =
     let inside = All-contains (λ (v : ℕ). v < length c.args.roster.now.came) (turn_numbers c.args.turns.now) c.event_at-event.result c.requires.inside (among (turn_numbers c.args.turns.now) c.loop-k.next c.event_at-event.result c.event_at-event.ensures) in
     omega (arith, count, inside)
 
-pub enter-requires-clause-nodes : goal.enter-requires-clause-nodes
-enter-requires-clause-nodes g c =
-    let less = c.if-is_message_next.ensures.event refl in
-    let few = c.loop-k.invariant.at.nodes in
-    let most = c.requires.nodes in
-    omega (arith, less, few, most)
-
-pub enter-requires-clause-arcs : goal.enter-requires-clause-arcs
-enter-requires-clause-arcs g c =
-    let less = c.if-is_message_next.ensures.event refl in
-    let few = c.loop-k.invariant.at.arcs in
-    let left = c.loop-k.invariant.at.left in
-    let most = c.requires.arcs in
-    omega (arith, less, few, left, most)
-
 pub enter-requires-clause-room : goal.enter-requires-clause-room
 enter-requires-clause-room g c =
     let less = c.if-is_message_next.ensures.event refl in
-    let few = c.loop-k.invariant.at.nodes in
+    let nodes_few = c.loop-k.invariant.at.nodes in
+    let arcs_few = c.loop-k.invariant.at.arcs in
+    let left = c.loop-k.invariant.at.left in
+    let nodes_most = c.requires.room.nodes in
+    let arcs_most = c.requires.room.arcs in
     let most : ℕ = length c.args.solver.now.graph.nodes + 2 * length c.args.turns.now in
-    room_less (length c.loop-k.solver.graph.nodes + 2) most c.loop-k.solver (omega (arith, less, few)) (c.loop-k.invariant.at.come.room most c.requires.room)
+    record {
+      nodes = omega (arith, less, nodes_few, nodes_most);
+      room = room_less (length c.loop-k.solver.graph.nodes + 2) most c.loop-k.solver (omega (arith, less, nodes_few)) (c.loop-k.invariant.at.come.room most c.requires.room.room);
+      arcs = omega (arith, less, arcs_few, left, arcs_most);
+    }
 
 pub loop-k-preserved : goal.loop-k-preserved
 loop-k-preserved g c = elim c.if-is_message_next.branch [
@@ -152,7 +144,6 @@ loop-k-preserved g c = elim c.if-is_message_next.branch [
         nodes = omega (arith, nodes_few, same);
         arcs = omega (arith, arcs_few, more, some);
         declaration = w.in_ok-join.ensures.declaration ∙ c.loop-k.invariant.at.declaration;
-        extends = extends_then c.args.solver.now c.loop-k.solver w.join.new.solver c.loop-k.invariant.at.extends w.in_ok-join.ensures.extends;
       } in
       let few_steps = few_then c.args.solver.now c.loop-k.solver w.join.new.solver c.args.steps.now c.loop-k.steps w.join.new.steps c.loop-k.invariant.steps w.in_ok-join.ensures.steps in
       record {
@@ -183,7 +174,6 @@ loop-k-preserved g c = elim c.if-is_message_next.branch [
         nodes = omega (arith, nodes_few, more_nodes);
         arcs = omega (arith, arcs_few, more);
         declaration = w.in_ok-hint.ensures.declaration ∙ c.loop-k.invariant.at.declaration;
-        extends = extends_then c.args.solver.now c.loop-k.solver w.enter.new.solver c.loop-k.invariant.at.extends w.in_ok-hint.ensures.extends;
       } in
       let few_steps = few_then c.args.solver.now c.loop-k.solver w.enter.new.solver c.args.steps.now c.loop-k.steps w.enter.new.steps c.loop-k.invariant.steps w.in_ok-hint.ensures.steps in
       record {

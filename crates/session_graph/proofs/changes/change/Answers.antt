@@ -49,9 +49,11 @@ come-requires g c =
       receives = ready.receives;
       ready = ready.ready;
       all = ready.all;
-      nodes = omega (arith, nodes, few);
-      room = room_less (length c.withdraw.new.solver.graph.nodes + 2 * length c.deref-5.result.now) most c.withdraw.new.solver nodes (c.in_ok-withdraw.ensures.room most c.requires.room);
-      arcs = omega (arith, arcs, few);
+      room = record {
+        nodes = omega (arith, nodes, few);
+        room = room_less (length c.withdraw.new.solver.graph.nodes + 2 * length c.deref-5.result.now) most c.withdraw.new.solver nodes (c.in_ok-withdraw.ensures.room most c.requires.room);
+        arcs = omega (arith, arcs, few);
+      };
     }
 
 pub returns : goal.returns
@@ -67,7 +69,7 @@ returns g c =
     _ _ c.decl-4.ensures.lawful c.in_ok-come.ensures.come c.in_ok-come.ensures.all c.in_ok-come.ensures.nodes c.in_ok-come.ensures.arcs in
     let (before, kept, changes) = c.requires.kept in
     let now = all before kept changes in
-    let grows = c.in_ok-come.ensures.extends in
+    let grows = c.in_ok-come.ensures.come.extends in
     let between = some_between c.args.solver.now c.withdraw.new.solver c.come.new.solver c.args.steps.now c.withdraw.new.steps kept.solution.current c.in_ok-withdraw.ensures.steps now.left grows in
     let steps = added_few (length c.args.events.now) c.args.solver.now c.withdraw.new.solver c.come.new.solver c.args.steps.now c.withdraw.new.steps c.come.new.steps kept.solution.current c.in_ok-withdraw.ensures.steps now.left
     grows c.in_ok-come.ensures.steps now.arcs in

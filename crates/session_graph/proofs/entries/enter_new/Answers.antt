@@ -7,7 +7,7 @@ use Rattle.roster.specs.Readings.{HasStamp}
 use Rattle.roster.specs.Roster.{RosterLists}
 use Rattle.roster.proofs.Beside.{group_inside}
 use Rattle.session_graph.specs.Links.{AreThere}
-use Rattle.session_graph.proofs.Extending.{extends_then, extends_by_nodes, few_then, few_by_nodes}
+use Rattle.session_graph.proofs.Extending.{few_then, few_by_nodes}
 use Rattle.session_graph.proofs.OneEvent.{own_shown, nodes_shown, reading_new, entered_event, entered_reading, entered_there, comes, stands, nodes_few, arcs_few}
 use Rattle.session_graph.proofs.entries.enter_new.Goals as goal
 
@@ -60,12 +60,6 @@ returns-clause-nodes g c = nodes_few c.args.roster.now c.decl.ensures.lawful c.a
 
 pub returns-clause-arcs : goal.returns-clause-arcs
 returns-clause-arcs g c = arcs_few c.args.roster.now c.decl.ensures.lawful c.args.v c.event-came.result c.event-came.ensures c.args.solver.now c.requires.new c.clock_of-place.result (c.clock_of-place.ensures.is c.event-came.result.number) c.is_known-known.result c.nearest_of-nearest.result c.is_known-known.ensures.known c.is_known-known.ensures.new c.nearest_of-nearest.ensures.nearest c.nearest_of-nearest.ensures.inside c.push_event.new.solver c.push_reading.new.solver c.in_ok-push_event.ensures.graph (λ k. (c.in_ok-push_reading.ensures.known k).0) c.in_ok-push_reading.ensures.graph c.push_event.new.roster c.push_reading.new.roster c.in_ok-push_event.ensures.told (λ k. (c.in_ok-push_reading.ensures.known k).1) c.in_ok-push_reading.ensures.told c.push_entry.new.solver c.in_ok-push_entry.ensures.brings c.clock_at-clock.result c.clock_at-clock.ensures (λ p flags y. c.in_ok-push_entry.ensures.left p flags y)
-
-pub returns-clause-extends : goal.returns-clause-extends
-returns-clause-extends g c =
-    extends_then c.args.solver.now c.push_reading.new.solver c.push_entry.new.solver
-    (extends_by_nodes c.args.solver.now c.push_event.new.solver c.push_reading.new.solver c.is_known-known.result (nodes.Event c.args.v) (nodes.Reading c.clock_of-place.result c.event-came.result.stamp) c.in_ok-push_event.ensures.graph (λ k. (c.in_ok-push_reading.ensures.known k).0) c.in_ok-push_reading.ensures.graph)
-    c.in_ok-push_entry.ensures.brings.extends
 
 pub returns-clause-steps : goal.returns-clause-steps
 returns-clause-steps g c =

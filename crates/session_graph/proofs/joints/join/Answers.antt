@@ -30,4 +30,5 @@ returns-clause-come g c =
       stay = λ n (k, at). (k, ap (λ (ns : List Node). slice_get ns k) brings.nodes ∙ at);
       rows = brings.rows;
       room = brings.room;
+      extends = brings.extends;
     }

@@ -10,9 +10,9 @@ use Rattle.session_graph.proofs.links.push_after.Goals as goal
 
 pub returns-in-Some-clause-left : goal.returns-in-Some-clause-left
 returns-in-Some-clause-left g c = on_ok c.push_follow.result c.push_follow.ensures.left (λ left p entered rest follows beside is.
-    let after : ComesAfter p c.args.place c.in-Some.first.0 = subst (λ (o : Option (ℕ × ℕ)). IfSome o (λ e. ComesAfter p c.args.place e.0)) c.in-Some.is beside in
-    let f = follow_to c.args.roster.now.declaration p c.args.place c.in-Some.first.0 c.gap_of-gap.result follows after c.gap_of-gap.ensures in
-    left p entered rest f.0 f.1 f.2 f.3 after (subst (λ (o : Option (ℕ × ℕ)). IsGrowing p entered (follow_after c.args.place c.args.stamp o ++ rest) c.args.solver.now.graph) c.in-Some.is is))
+    let after : ComesAfter p c.args.reading.now.place c.in-Some.first.0 = subst (λ (o : Option (ℕ × ℕ)). IfSome o (λ e. ComesAfter p c.args.reading.now.place e.0)) c.in-Some.is beside in
+    let f = follow_to c.args.roster.now.declaration p c.args.reading.now.place c.in-Some.first.0 c.gap_of-gap.result follows after c.gap_of-gap.ensures in
+    left p entered rest f.0 f.1 f.2 f.3 after (subst (λ (o : Option (ℕ × ℕ)). IsGrowing p entered (follow_after c.args.reading.now.place c.args.reading.now.stamp o ++ rest) c.args.solver.now.graph) c.in-Some.is is))
 
 pub returns-in-None-clause-steps : goal.returns-in-None-clause-steps
 returns-in-None-clause-steps g c = few_none c.args.solver.now c.args.steps.now

@@ -9,14 +9,14 @@ use Rattle.session_graph.proofs.links.push_below.Goals as goal
 
 pub returns-in-Some-clause-brings : goal.returns-in-Some-clause-brings
 returns-in-Some-clause-brings g c = on_ok c.push_span.result c.push_span.ensures.brings (λ brings.
-    subst (λ (o : Option ℕ). Brings (span_below c.args.place c.args.stamp o) c.args.solver.now c.push_span.new.solver) (sym c.in-Some.is) brings)
+    subst (λ (o : Option ℕ). Brings (span_below c.args.reading.now.place c.args.reading.now.stamp o) c.args.solver.now c.push_span.new.solver) (sym c.in-Some.is) brings)
 
 pub returns-in-Some-clause-left : goal.returns-in-Some-clause-left
 returns-in-Some-clause-left g c = on_ok c.push_span.result c.push_span.ensures.left (λ left p entered rest at is.
-    left p entered rest at (subst (λ (o : Option ℕ). IsGrowing p entered (span_below c.args.place c.args.stamp o ++ rest) c.args.solver.now.graph) c.in-Some.is is))
+    left p entered rest at (subst (λ (o : Option ℕ). IsGrowing p entered (span_below c.args.reading.now.place c.args.reading.now.stamp o ++ rest) c.args.solver.now.graph) c.in-Some.is is))
 
 pub returns-in-None-clause-brings : goal.returns-in-None-clause-brings
-returns-in-None-clause-brings g c = subst (λ (o : Option ℕ). Brings (span_below c.args.place c.args.stamp o) c.args.solver.now c.args.solver.now) (sym c.in-None.is) (brings_none c.args.solver.now c.requires.current)
+returns-in-None-clause-brings g c = subst (λ (o : Option ℕ). Brings (span_below c.args.reading.now.place c.args.reading.now.stamp o) c.args.solver.now c.args.solver.now) (sym c.in-None.is) (brings_none c.args.solver.now c.requires.current)
 
 pub returns-in-None-clause-steps : goal.returns-in-None-clause-steps
 returns-in-None-clause-steps g c = few_none c.args.solver.now c.args.steps.now

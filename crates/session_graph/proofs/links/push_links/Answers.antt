@@ -9,10 +9,10 @@ use Rattle.session_graph.proofs.links.push_links.Goals as goal
 pub returns-clause-brings : goal.returns-clause-brings
 returns-clause-brings g c =
     let n = c.args.nearest.now in
-    let over : List Bound = span_above c.args.place c.args.stamp n.above in
-    let before : List Bound = follow_before c.args.place c.args.stamp n.earlier in
-    let after : List Bound = follow_after c.args.place c.args.stamp n.later in
-    brings_then (span_below c.args.place c.args.stamp n.below) (over ++ (before ++ after)) c.args.solver.now c.push_below.new.solver c.push_after.new.solver c.in_ok-push_below.ensures.brings
+    let over : List Bound = span_above c.args.reading.now.place c.args.reading.now.stamp n.above in
+    let before : List Bound = follow_before c.args.reading.now.place c.args.reading.now.stamp n.earlier in
+    let after : List Bound = follow_after c.args.reading.now.place c.args.reading.now.stamp n.later in
+    brings_then (span_below c.args.reading.now.place c.args.reading.now.stamp n.below) (over ++ (before ++ after)) c.args.solver.now c.push_below.new.solver c.push_after.new.solver c.in_ok-push_below.ensures.brings
     (brings_then over (before ++ after) c.push_below.new.solver c.push_above.new.solver c.push_after.new.solver c.in_ok-push_above.ensures.brings
     (brings_then before after c.push_above.new.solver c.push_before.new.solver c.push_after.new.solver c.in_ok-push_before.ensures.brings c.in_ok-push_after.ensures.brings))
 
@@ -25,10 +25,10 @@ returns-clause-steps g c =
 pub returns-clause-left : goal.returns-clause-left
 returns-clause-left g c = λ p entered rest clock follows beside left.
     let n = c.args.nearest.now in
-    let under : List Bound = span_below c.args.place c.args.stamp n.below in
-    let over : List Bound = span_above c.args.place c.args.stamp n.above in
-    let before : List Bound = follow_before c.args.place c.args.stamp n.earlier in
-    let after : List Bound = follow_after c.args.place c.args.stamp n.later in
+    let under : List Bound = span_below c.args.reading.now.place c.args.reading.now.stamp n.below in
+    let over : List Bound = span_above c.args.reading.now.place c.args.reading.now.stamp n.above in
+    let before : List Bound = follow_before c.args.reading.now.place c.args.reading.now.stamp n.earlier in
+    let after : List Bound = follow_after c.args.reading.now.place c.args.reading.now.stamp n.later in
     c.in_ok-push_after.ensures.left p entered rest follows beside.later
     (c.in_ok-push_before.ensures.left p entered (after ++ rest) follows beside.earlier
     (c.in_ok-push_above.ensures.left p entered (before ++ (after ++ rest)) clock

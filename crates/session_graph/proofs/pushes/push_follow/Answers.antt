@@ -24,8 +24,8 @@ returns-clause-brings g c = on_ok c.push_arcs.result c.push_arcs.ensures.brings 
 
 pub returns-clause-left : goal.returns-clause-left
 returns-clause-left g c = on_ok c.push_arcs.result c.push_arcs.ensures.left (λ left p entered rest f has later gap after is.
-    let is_s = reading_by p entered c.args.earlier c.args.s (is.nodes (nodes.Reading c.args.earlier c.args.s) c.requires.to) in
-    let is_t = reading_by p entered c.args.later c.args.t (is.nodes (nodes.Reading c.args.later c.args.t) c.requires.from) in
+    let is_s = reading_by p entered c.args.follow.now.earlier c.args.follow.now.s (is.nodes (nodes.Reading c.args.follow.now.earlier c.args.follow.now.s) c.requires.to) in
+    let is_t = reading_by p entered c.args.later c.args.follow.now.t (is.nodes (nodes.Reading c.args.later c.args.follow.now.t) c.requires.from) in
     left p entered rest (c.follow_arcs-arcs.ensures.declared p c.args.solver.now.graph.nodes (c.number_of-first.ensures, c.number_of-second.ensures)
-    (f, has, later, after, is_s, is_t, ap (λ (n : ℕ). gap_between c.args.earlier c.args.s c.args.later c.args.t n) (sym gap)))
+    (f, has, later, after, is_s, is_t, ap (λ (n : ℕ). gap_between c.args.follow.now.earlier c.args.follow.now.s c.args.later c.args.follow.now.t n) (sym gap)))
     (subst (λ (bs : List Bound). IsGrowing p entered (bs ++ rest) c.args.solver.now.graph) (sym c.follow_arcs-arcs.ensures.named) is))

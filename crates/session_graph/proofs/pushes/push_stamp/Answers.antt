@@ -7,7 +7,7 @@ use Rattle.session_graph.specs.Pushes.{Brings}
 use Rattle.session_graph.proofs.pushes.push_stamp.Goals as goal
 
 pub push_arcs-requires-clause-fit : goal.push_arcs-requires-clause-fit
-push_arcs-requires-clause-fit g c = c.stamp_arcs-arcs.ensures.fit c.args.solver.now.graph.nodes (c.number_of-reading.ensures, c.number_of-event.ensures)
+push_arcs-requires-clause-fit g c = c.stamp_arcs-arcs.ensures.fit c.args.solver.now.graph.nodes (c.number_of-first.ensures, c.number_of-second.ensures)
 
 pub push_arcs-requires-clause-room : goal.push_arcs-requires-clause-room
 push_arcs-requires-clause-room g c =
@@ -21,5 +21,5 @@ returns-clause-brings g c = on_ok c.push_arcs.result c.push_arcs.ensures.brings 
 
 pub returns-clause-left : goal.returns-clause-left
 returns-clause-left g c = on_ok c.push_arcs.result c.push_arcs.ensures.left (λ left p entered rest e event on is clock growing.
-    left p entered rest (c.stamp_arcs-arcs.ensures.declared p c.args.solver.now.graph.nodes (c.number_of-reading.ensures, c.number_of-event.ensures) (e, event, on, is, clock))
+    left p entered rest (c.stamp_arcs-arcs.ensures.declared p c.args.solver.now.graph.nodes (c.number_of-first.ensures, c.number_of-second.ensures) (e, event, on, is, clock))
     (subst (λ (bs : List Bound). IsGrowing p entered (bs ++ rest) c.args.solver.now.graph) (sym c.stamp_arcs-arcs.ensures.named) growing))

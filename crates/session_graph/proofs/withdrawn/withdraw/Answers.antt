@@ -13,17 +13,14 @@ list_messages-requires g c =
     let (all, left, way, of) = c.requires.ready in
     (c.args.solver.now.graph, all_told c.args.roster.now c.args.solver.now all left c.args.messages.now way of)
 
-pub withdraw-requires-clause-in_force : goal.withdraw-requires-clause-in_force
-withdraw-requires-clause-in_force g c =
+pub withdraw-requires-clause-numbers : goal.withdraw-requires-clause-numbers
+withdraw-requires-clause-numbers g c =
     let (all, left, way, of) = c.requires.ready in
     let numbers : c.deref.result.now ≡ flat_map (told_arcs c.args.roster.now) c.args.messages.now = c.deref.ensures.value ∙ c.in_ok-numbers.ensures in
-    subst (All (IsOn c.args.solver.now.graph)) (sym numbers) (numbers_on c.args.roster.now c.args.solver.now all left c.args.messages.now way of)
-
-pub withdraw-requires-clause-differ : goal.withdraw-requires-clause-differ
-withdraw-requires-clause-differ g c =
-    let (all, left, way, of) = c.requires.ready in
-    let numbers : c.deref.result.now ≡ flat_map (told_arcs c.args.roster.now) c.args.messages.now = c.deref.ensures.value ∙ c.in_ok-numbers.ensures in
-    subst (AllPairs (λ (j k : ℕ). j ≢ k)) (sym numbers) (numbers_differ c.args.roster.now c.args.solver.now all left c.args.messages.now way of c.requires.differ)
+    record {
+      each = subst (All (IsOn c.args.solver.now.graph)) (sym numbers) (numbers_on c.args.roster.now c.args.solver.now all left c.args.messages.now way of);
+      differ = subst (AllPairs (λ (j k : ℕ). j ≢ k)) (sym numbers) (numbers_differ c.args.roster.now c.args.solver.now all left c.args.messages.now way of c.requires.differ);
+    }
 
 pub forget_all-requires : goal.forget_all-requires
 forget_all-requires g c =
@@ -33,10 +30,10 @@ forget_all-requires g c =
 pub returns-clause-gone : goal.returns-clause-gone
 returns-clause-gone g c = λ all left way of.
     let numbers : c.deref.result.now ≡ flat_map (told_arcs c.args.roster.now) c.args.messages.now = c.deref.ensures.value ∙ c.in_ok-numbers.ensures in
-    left_way c.args.roster.now c.args.solver.now all left c.args.messages.now way of c.withdraw.new.self c.withdraw.ensures.nodes c.withdraw.ensures.arcs
-    (c.withdraw.ensures.in_force ∙ ap (withdrawn c.args.solver.now.graph.in_force) numbers) c.forget_all.new.roster
+    left_way c.args.roster.now c.args.solver.now all left c.args.messages.now way of c.withdraw.new.self c.withdraw.ensures.graph.nodes c.withdraw.ensures.graph.arcs
+    (c.withdraw.ensures.graph.in_force ∙ ap (withdrawn c.args.solver.now.graph.in_force) numbers) c.forget_all.new.roster
     (subst (IsForgetting (sends_of c.args.messages.now) c.args.roster.now) (sym c.forget_all.ensures) (forgotten c.args.roster.now c.args.solver.now all left c.args.messages.now way of))
-    c.in_ok-withdraw.ensures.current
+    c.in_ok-withdraw.ensures.slots.current
 
 pub returns-clause-retells : goal.returns-clause-retells
 returns-clause-retells g c =
@@ -58,9 +55,9 @@ returns-clause-steps g c =
     record {
       numbers = c.deref.result.now;
       were = subst (All (IsOn c.args.solver.now.graph)) (sym numbers) (numbers_on c.args.roster.now c.args.solver.now all left c.args.messages.now way of);
-      nodes = c.withdraw.ensures.nodes;
-      arcs = c.withdraw.ensures.arcs;
-      in_force = c.withdraw.ensures.in_force;
+      nodes = c.withdraw.ensures.graph.nodes;
+      arcs = c.withdraw.ensures.graph.arcs;
+      in_force = c.withdraw.ensures.graph.in_force;
       slots = c.in_ok-withdraw.ensures.slots.slots;
       source = c.in_ok-withdraw.ensures.slots.source;
       solved = c.in_ok-withdraw.ensures.solved;

@@ -23,11 +23,11 @@ loop-k-init c = record {
   nodes = refl;
   arcs = refl;
   flags = refl;
-  in_force = c.requires.in_force;
+  in_force = c.requires.numbers.each;
   graph = c.exact.ensures;
   values = λ values earliest. c.removals.ensures.none c.args.g.now values earliest;
   rows = c.withdrawals.ensures.none c.args.g.now c.exact.ensures;
-  differ = c.requires.differ;
+  differ = c.requires.numbers.differ;
 }
 
 pub loop-k-preserved : goal.loop-k-preserved
@@ -58,12 +58,16 @@ loop-k-preserved c =
       differ = pairs_behind k rest differ;
     }
 
-pub returns-clause-in_force : goal.returns-clause-in_force
-returns-clause-in_force c =
+pub returns-clause-graph : goal.returns-clause-graph
+returns-clause-graph c =
     let i : ℕ = c.loop-k.k-index in
     let numbers : List ℕ = c.args.numbers.now in
     let none_left : drop i numbers ≡ [] = drop_all i numbers (omega (arith, c.loop-k-test.false)) in
-    sym (ap (withdrawn c.loop-k.g.in_force) none_left) ∙ c.loop-k.invariant.flags
+    record {
+      nodes = c.loop-k.invariant.nodes;
+      arcs = c.loop-k.invariant.arcs;
+      in_force = sym (ap (withdrawn c.loop-k.g.in_force) none_left) ∙ c.loop-k.invariant.flags;
+    }
 
 pub returns-clause-values : goal.returns-clause-values
 returns-clause-values c = λ values earliest.

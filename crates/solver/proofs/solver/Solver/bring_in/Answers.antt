@@ -11,6 +11,7 @@ use Rattle.repair.specs.Slots.{KeptRows, all_slots, AreRowsBut, AreRowsOf}
 use Rattle.repair.specs.Renewals.{TakesFewSteps}
 use Rattle.solver.specs.Solver.{SolverLists}
 use Rattle.solver.specs.Changes.{KeepsSlots}
+use Rattle.solver.specs.Current.{IsCurrent}
 use Rattle.solver.specs.Costs.{pushing_steps}
 use Rattle.solver.specs.Pushed.{IsPushed}
 use Rattle.solver.specs.contracts.solver.Solver.{the_view}
@@ -49,23 +50,19 @@ after_insert-requires-clause-can g c =
     let after : SolverLists = record { graph = s.graph; earliest = c.insert.new.self; contradiction = s.contradiction; pool = s.pool; kept = s.kept; front = s.front } in
     can_by after c.new-search.result c.new-search.ensures (record { rows = pushed.set_up.room.rows; found = pushed.set_up.room.found; front = pushed.set_up.room.front }) s.pool c.insert.new.queue refl c.insert.ensures.queue
 
-pub returns-in-Kept-clause-current : goal.returns-in-Kept-clause-current
-returns-in-Kept-clause-current g c =
-    let s : SolverLists = the_view c.self.inside in
-    let pushed : IsPushed c.args.arc s = subst (IsPushed c.args.arc) (sym c.self.view_is) c.requires.before in
-    let found : IsInserted s.graph c.insert.new.self Kept = subst (IsInserted s.graph c.insert.new.self) c.in-Kept.is c.in_ok-insert.ensures.found in
-    renewed s pushed.set_up c.insert.new.self s.contradiction c.after_insert.new.pool c.after_insert.new.self c.after_insert.new.queue found.1.execution.one_each found.0 found.1 pushed.none
-    c.after_insert.ensures.slots c.after_insert.ensures.own (subst (λ (r : Searched). AreRowsOf r.graph c.after_insert.new.self c.after_insert.new.pool) c.new-search.ensures c.after_insert.ensures.rows)
-    c.after_insert.ensures.others (c.after_insert.ensures.queue ∙ c.insert.ensures.queue)
-
 pub returns-in-Kept-clause-slots : goal.returns-in-Kept-clause-slots
 returns-in-Kept-clause-slots g c =
     let s : SolverLists = the_view c.self.inside in
+    let pushed : IsPushed c.args.arc s = subst (IsPushed c.args.arc) (sym c.self.view_is) c.requires.before in
+    let found : IsInserted s.graph c.insert.new.self Kept = subst (IsInserted s.graph c.insert.new.self) c.in-Kept.is c.in_ok-insert.ensures.found in
     let new : SolverLists = record { graph = s.graph; earliest = c.insert.new.self; contradiction = s.contradiction; pool = c.after_insert.new.pool; kept = c.after_insert.new.self; front = c.after_insert.new.queue } in
+    let current : IsCurrent new = renewed s pushed.set_up c.insert.new.self s.contradiction c.after_insert.new.pool c.after_insert.new.self c.after_insert.new.queue found.1.execution.one_each found.0 found.1 pushed.none
+    c.after_insert.ensures.slots c.after_insert.ensures.own (subst (λ (r : Searched). AreRowsOf r.graph c.after_insert.new.self c.after_insert.new.pool) c.new-search.ensures c.after_insert.ensures.rows)
+    c.after_insert.ensures.others (c.after_insert.ensures.queue ∙ c.insert.ensures.queue) in
     subst (λ (x : SolverLists). KeepsSlots x new) c.self.view_is
     (keeps_slots s new
     (ap (λ (k : KeptRows). k.slots) c.after_insert.ensures.slots) (ap (λ (k : KeptRows). k.source) c.after_insert.ensures.slots) (ap (λ (k : KeptRows). k.room) c.after_insert.ensures.slots)
-    (c.after_insert.ensures.queue ∙ c.insert.ensures.queue) c.after_insert.ensures.others)
+    (c.after_insert.ensures.queue ∙ c.insert.ensures.queue) c.after_insert.ensures.others current)
 
 pub returns-in-Kept-clause-steps : goal.returns-in-Kept-clause-steps
 returns-in-Kept-clause-steps g c =

@@ -5,9 +5,10 @@ use Rattle.distances.specs.Searched.{nodes}
 use Rattle.repair.specs.Slots.{AreRowsOf}
 use Rattle.repair.specs.Renewals.{CanRenew}
 use Rattle.solver.specs.Solver.{SolverLists}
+use Rattle.solver.specs.Changes.{StaysCurrent}
 use Rattle.solver.specs.Current.{IsCurrent}
 use Rattle.solver.specs.contracts.solver.Solver.{the_view}
-use Rattle.solver.proofs.Staying.{rows_now, earliest_now}
+use Rattle.solver.proofs.Staying.{with_rows, stays_with_rows, rows_now, earliest_now}
 use Rattle.solver.proofs.Searching.{can_renew, if_found, found_so}
 use Rattle.solver.proofs.KeptSlots.{keep_free, keep_current}
 use Rattle.solver.proofs.solver.Solver.keep.Goals as goal
@@ -42,11 +43,12 @@ returns-clause-free g c =
     subst (λ (s : SolverLists). OnOk c.keep.result (free_rows c.keep.new.pool + 2 ≡ free_rows s.pool)) c.self.view_is
     (keep_free c.self.inside.pool c.keep.new.pool c.args.node c.self.inside.kept c.keep.new.self c.keep.result c.keep.ensures.takes)
 
-pub returns-clause-current : goal.returns-clause-current
-returns-clause-current g c =
+pub returns-clause-leaves : goal.returns-clause-leaves
+returns-clause-leaves g c =
     let s : SolverLists = the_view c.self.inside in
     let current : IsCurrent s = subst IsCurrent (sym c.self.view_is) c.requires.current in
     let below : c.args.node < length s.graph.nodes = subst (λ (x : SolverLists). c.args.node < length x.graph.nodes) (sym c.self.view_is) c.requires.node in
-    keep_current s current c.args.node below c.keep.new.pool c.keep.new.queue c.keep.ensures.queue
+    let now : IsCurrent (with_rows s c.keep.new.pool c.keep.new.self c.keep.new.queue) = keep_current s current c.args.node below c.keep.new.pool c.keep.new.queue c.keep.ensures.queue
     c.keep.new.self c.keep.result c.keep.ensures.takes c.keep.ensures.err c.keep.ensures.own
-    (found_so s.graph s.earliest (λ r. AreRowsOf r.graph c.keep.new.self c.keep.new.pool) c.search_of-search.result c.search_of-search.ensures c.keep.ensures.rows)
+    (found_so s.graph s.earliest (λ r. AreRowsOf r.graph c.keep.new.self c.keep.new.pool) c.search_of-search.result c.search_of-search.ensures c.keep.ensures.rows) in
+    subst (λ (x : SolverLists). StaysCurrent x (with_rows s c.keep.new.pool c.keep.new.self c.keep.new.queue)) c.self.view_is (stays_with_rows s c.keep.new.pool c.keep.new.self c.keep.new.queue c.keep.ensures.queue now)

@@ -5,12 +5,13 @@ use Rattle.distances.specs.Searched.{nodes}
 use Rattle.repair.specs.Slots.{IsRowsOf}
 use Rattle.repair.specs.Renewals.{CanRenew}
 use Rattle.solver.specs.Solver.{SolverLists}
+use Rattle.solver.specs.Changes.{StaysCurrent}
 use Rattle.solver.specs.Current.{IsCurrent}
 use Rattle.solver.specs.contracts.solver.Solver.{the_view}
 use Rattle.solver.proofs.Lending.{two_less}
 use Rattle.solver.proofs.Loans.{lent_current}
 use Rattle.solver.proofs.Searching.{can_renew, if_found, found_so}
-use Rattle.solver.proofs.Staying.{solved_now, earliest_now}
+use Rattle.solver.proofs.Staying.{with_rows, stays_with_rows, solved_now, earliest_now}
 use Rattle.solver.proofs.solver.Solver.lend.Goals as goal
 
 pub search_of-search-requires : goal.search_of-search-requires
@@ -37,12 +38,13 @@ returns-clause-free g c =
     subst (λ (s : SolverLists). free_rows c.new_slot-slot.new.pool + 2 ≡ free_rows s.pool) c.self.view_is
     (two_less c.self.inside.pool c.new_slot-slot.new.pool c.new_slot-slot.result c.new_slot-slot.ensures.takes)
 
-pub returns-clause-current : goal.returns-clause-current
-returns-clause-current g c =
+pub returns-clause-leaves : goal.returns-clause-leaves
+returns-clause-leaves g c =
     let s : SolverLists = the_view c.self.inside in
     let current : IsCurrent s = subst IsCurrent (sym c.self.view_is) c.requires.current in
     let none : s.contradiction ≡ [] = subst (λ (x : SolverLists). x.contradiction ≡ []) (sym c.self.view_is) c.requires.solved in
     let made : IsRowsOf (length s.graph.nodes) (table_of s.graph) c.new_slot-slot.new.pool c.new_slot-slot.result =
     found_so s.graph s.earliest (λ r. IsRowsOf (nodes r) (table_of r.graph) c.new_slot-slot.new.pool c.new_slot-slot.result) c.search_of-search.result c.search_of-search.ensures c.new_slot-slot.ensures.rows
     (solved_now s current none).solved in
-    lent_current s current c.new_slot-slot.new.pool c.new_slot-slot.new.queue c.new_slot-slot.result c.new_slot-slot.ensures.takes made c.new_slot-slot.ensures.queue
+    let now : IsCurrent (with_rows s c.new_slot-slot.new.pool s.kept c.new_slot-slot.new.queue) = lent_current s current c.new_slot-slot.new.pool c.new_slot-slot.new.queue c.new_slot-slot.result c.new_slot-slot.ensures.takes made c.new_slot-slot.ensures.queue in
+    subst (λ (x : SolverLists). StaysCurrent x (with_rows s c.new_slot-slot.new.pool s.kept c.new_slot-slot.new.queue)) c.self.view_is (stays_with_rows s c.new_slot-slot.new.pool s.kept c.new_slot-slot.new.queue c.new_slot-slot.ensures.queue now)

@@ -15,7 +15,7 @@ returns-clause-current c =
     let room : HasRoom (length s.graph.nodes + 1) s = subst (λ (x : SolverLists). HasRoom (length x.graph.nodes + 1) x) (sym c.self.view_is) c.requires.room in
     let is : IsGraph (with_node s.graph c.args.n) = subst IsGraph c.in_ok-node.ensures.ok c.exact.ensures in
     subst (λ (e : Values). IsCurrent (record { graph = c.push_node-2.new.self; earliest = e; contradiction = s.contradiction; pool = s.pool; kept = s.kept; front = s.front })) (sym c.in_ok-push_node.ensures.ok)
-    (subst (λ (h : GraphLists). IsCurrent (record { graph = h; earliest = record { values = s.earliest.values ++ pos 0 ∷ []; is_solved = s.earliest.is_solved }; contradiction = s.contradiction; pool = s.pool; kept = s.kept; front = s.front })) (sym c.in_ok-node.ensures.ok)
+    (subst (λ (h : GraphLists). IsCurrent (record { graph = h; earliest = record { values = s.earliest.values ++ pos 0 ∷ []; is_solved = s.earliest.is_solved; workspace = s.earliest.workspace ++ 0 ∷ [] }; contradiction = s.contradiction; pool = s.pool; kept = s.kept; front = s.front })) (sym c.in_ok-node.ensures.ok)
     (current_with_node s c.args.n current is room
     (c.growth.ensures.node s.graph c.args.n s.earliest.values current.set_up.graph)
     (c.rows_of_a_grown_graph.ensures.node s.graph c.args.n s.kept s.pool)))

@@ -5,6 +5,7 @@ use Rattle.repair.specs.Slots.{KeptRows, all_slots, AreRowsOf}
 use Rattle.repair.specs.Withdrawals.{WereRows, TakesFewToWithdraw}
 use Rattle.solver.specs.Solver.{SolverLists}
 use Rattle.solver.specs.Changes.{KeepsSlots}
+use Rattle.solver.specs.Current.{IsCurrent}
 use Rattle.solver.specs.Costs.{TakesFewToWithdrawAll}
 use Rattle.solver.specs.Withdrawn.{IsCutDown}
 use Rattle.solver.specs.contracts.solver.Solver.{the_view}
@@ -33,23 +34,19 @@ after_withdraw-requires-clause-found g c =
     let cut : IsCutDown c.args.removed.now s = subst (IsCutDown c.args.removed.now) (sym c.self.view_is) c.requires in
     subst (λ (r : Searched). nodes r ≤ s.kept.room) (sym c.new-withdrawal.ensures.search) cut.set_up.room.found
 
-pub returns-clause-current : goal.returns-clause-current
-returns-clause-current g c =
-    let s : SolverLists = the_view c.self.inside in
-    let cut : IsCutDown c.args.removed.now s = subst (IsCutDown c.args.removed.now) (sym c.self.view_is) c.requires in
-    renewed s cut.set_up c.withdraw.new.self s.contradiction c.after_withdraw.new.pool c.after_withdraw.new.self c.after_withdraw.new.queue c.withdraw.ensures.earliest.execution.one_each
-    c.withdraw.ensures.solved c.withdraw.ensures.earliest cut.none c.after_withdraw.ensures.slots c.after_withdraw.ensures.own
-    (subst (λ (r : Searched). AreRowsOf r.graph c.after_withdraw.new.self c.after_withdraw.new.pool) c.new-withdrawal.ensures.search c.after_withdraw.ensures.rows) c.after_withdraw.ensures.others
-    (c.after_withdraw.ensures.queue ∙ c.withdraw.ensures.queue)
-
 pub returns-clause-slots : goal.returns-clause-slots
 returns-clause-slots g c =
     let s : SolverLists = the_view c.self.inside in
+    let cut : IsCutDown c.args.removed.now s = subst (IsCutDown c.args.removed.now) (sym c.self.view_is) c.requires in
     let new : SolverLists = record { graph = s.graph; earliest = c.withdraw.new.self; contradiction = s.contradiction; pool = c.after_withdraw.new.pool; kept = c.after_withdraw.new.self; front = c.after_withdraw.new.queue } in
+    let current : IsCurrent new = renewed s cut.set_up c.withdraw.new.self s.contradiction c.after_withdraw.new.pool c.after_withdraw.new.self c.after_withdraw.new.queue c.withdraw.ensures.earliest.execution.one_each
+    c.withdraw.ensures.solved c.withdraw.ensures.earliest cut.none c.after_withdraw.ensures.slots c.after_withdraw.ensures.own
+    (subst (λ (r : Searched). AreRowsOf r.graph c.after_withdraw.new.self c.after_withdraw.new.pool) c.new-withdrawal.ensures.search c.after_withdraw.ensures.rows) c.after_withdraw.ensures.others
+    (c.after_withdraw.ensures.queue ∙ c.withdraw.ensures.queue) in
     subst (λ (x : SolverLists). KeepsSlots x new) c.self.view_is
     (keeps_slots s new
     (ap (λ (k : KeptRows). k.slots) c.after_withdraw.ensures.slots) (ap (λ (k : KeptRows). k.source) c.after_withdraw.ensures.slots) (ap (λ (k : KeptRows). k.room) c.after_withdraw.ensures.slots)
-    (c.after_withdraw.ensures.queue ∙ c.withdraw.ensures.queue) c.after_withdraw.ensures.others)
+    (c.after_withdraw.ensures.queue ∙ c.withdraw.ensures.queue) c.after_withdraw.ensures.others current)
 
 pub returns-clause-steps : goal.returns-clause-steps
 returns-clause-steps g c =
