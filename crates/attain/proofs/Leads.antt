@@ -28,6 +28,10 @@ sum_small : (side : Side) (m v x : ℤ) → neg_ℤ m ≤ℤ v → v ≤ℤ m �
 sum_small Upper m v x low high low' high' = (omega (arith, ints), omega (arith, ints))
 sum_small Lower m v x low high low' high' = (omega (arith, ints), omega (arith, ints))
 
+pub signed_small : (side : Side) (v : ℤ) → IsUpTo path_bits v → IsUpTo path_bits (signed side v)
+signed_small Upper v small = small
+signed_small Lower v small = (omega (arith, ints, small.1), omega (arith, ints, small.0))
+
 pub lead_least : (side : Side) (values : List ℤ) (c : Cells) (k : ℕ) → AreMiddling (length values) values c → k < length values → c.known k ≡ true → IsUpTo (path_bits + 1) (lead side c values k)
 lead_least side values c k sizes within known =
     let v = sizes.distances k known in

@@ -1,6 +1,7 @@
 pub mod Cutting
 pub mod Events
 pub mod Intervals
+pub mod RowFacts
 pub mod Leads
 pub mod Lines
 pub mod ListedProblems

@@ -2,11 +2,13 @@
 use Rattle.std.specs.Prelude.{◌≡◌, ℕ, List, [], ◌∷◌, ◌++◌, slice_get, Some, codes, ℤ}
 use Rattle.line_format.specs.Words.{line_of}
 use Rattle.problem_model.specs.Parents.{Cells}
+use Rattle.row_pool.specs.Row.{cells_of}
 use Rattle.sync_graph.specs.Graph.{GraphLists}
 use Rattle.problem.specs.Listing.{Listed, name_at}
 use Rattle.cert.specs.Listed.{certified}
 use Rattle.attain.specs.declared.side.Side.{Side}
 use Rattle.attain.specs.Written.{WrittenEnd, written_end, IsUpperWritten, IsLowerWritten}
+use Rattle.attain.specs.RowLists.{RowLists, cells_for}
 use Rattle.attain.specs.Sides.{part, unlimited, IsEndWritten}
 
 -- the event of this number is the node
@@ -34,3 +36,16 @@ pub record IsIntervalByRows (l : Listed) (g : GraphLists) (values : List ℤ) (f
 -- the text is the certificate with such lines
 abbrev pub IsIntervalText : Listed → GraphLists → List ℤ → Cells → Cells → ℕ → ℕ → List ℕ → Type 0
 IsIntervalText l g values from to p q text = (lines : List ℕ) × IsIntervalByRows l g values from to p q lines × (text ≡ certified lines)
+
+-- ---- by the rows of the first node
+-- the text is that of one end of the interval to node q
+abbrev pub IsEndBy : Side → Listed → RowLists → ℕ → List ℕ → Type 0
+IsEndBy side l r q text = IsEndText side l r.graph r.values (cells_for side r) r.node q text
+
+-- the lines are those of the interval to node q
+abbrev pub AreLinesBy : Listed → RowLists → ℕ → List ℕ → Type 0
+AreLinesBy l r q lines = IsIntervalByRows l r.graph r.values (cells_of r.from) (cells_of r.to) r.node q lines
+
+-- the text is the certificate with such lines
+abbrev pub IsTextBy : Listed → RowLists → ℕ → List ℕ → Type 0
+IsTextBy l r q text = IsIntervalText l r.graph r.values (cells_of r.from) (cells_of r.to) r.node q text

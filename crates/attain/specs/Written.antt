@@ -1,5 +1,5 @@
 -- What is written of the ends of an interval, by a graph, the rows of one of its nodes, and a listing.
-use Rattle.std.specs.Prelude.{◌≡◌, ℕ, ◌<◌, ◌↔◌, Bool, true, false, List, [], ◌∷◌, ◌++◌, length, slice_index_or, AllPairs, Contains, codes, ℤ, neg_ℤ}
+use Rattle.std.specs.Prelude.{◌≡◌, ℕ, ◌<◌, ◌≤◌, ◌↔◌, Bool, true, false, List, [], ◌∷◌, ◌++◌, length, slice_index_or, All, AllPairs, Contains, codes, ℤ, neg_ℤ}
 use Rattle.std.specs.List.{flat_map}
 use Rattle.atto.specs.NsText.{ns_text}
 use Rattle.line_format.specs.Words.{line_of}
@@ -11,7 +11,7 @@ use Rattle.problem_model.specs.Parents.{Cells}
 use Rattle.problem_model.specs.Limits.{path_bits}
 use Rattle.sync_graph.specs.declared.arc.Arc.{Arc}
 use Rattle.sync_graph.specs.Graph.{GraphLists, arc_at}
-use Rattle.problem.specs.Listing.{Listed, name_at}
+use Rattle.problem.specs.Listing.{Listed, name_at, listed_nodes}
 use Rattle.cert.specs.Listed.{HasNames, listed_step, listed_values, certified}
 
 -- ---- text
@@ -80,6 +80,12 @@ IsLowerWritten l g values c p q (NoLimit inside x) = (c.known q ≡ false) × Ar
 -- the bound of each arc in force is over clocks or events that have names
 abbrev pub NamesArcs : Listed → GraphLists → Type 0
 NamesArcs l g = (j : ℕ) → slice_index_or g.in_force j false ≡ true → HasNames l (arc_at g.arcs j).name
+
+-- the listing is one of the graph: it has the names of arcs in force, and lists nodes of the graph, readings by rising clocks
+pub record ListsGraph (l : Listed) (g : GraphLists) : Type 0 where
+  pub named : NamesArcs l g
+  pub nodes : All (λ (k : ℕ). k < length g.nodes) (listed_nodes l)
+  pub rising : AllPairs (λ (r s : ℕ × ℕ × ℕ). r.0 ≤ s.0) l.readings
 
 -- ---- sizes
 -- values and known distances are at most 2^115 in absolute value

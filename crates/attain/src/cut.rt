@@ -1,18 +1,18 @@
 // The cut where there is no limit: the clocks inside it.
-ghost use Rattle.std.specs.Prelude.{◌≡◌, ◌<◌, ◌≤◌, ℕ, List, length, All, AllPairs, IfOk};
+ghost use Rattle.std.specs.Prelude.{◌≡◌, ◌<◌, ℕ, List, length, IfOk};
 ghost use Rattle.std.specs.List.{flat_map};
 ghost use Rattle.ports.specs.Content.{Writes};
-ghost use Rattle.row_pool.specs.Row.{cells_of};
-ghost use Rattle.attain.specs.Written.{written_inside, AreClocksOf};
+ghost use Rattle.attain.specs.Written.{written_inside, AreClocksOf, ListsGraph};
+ghost use Rattle.attain.specs.RowLists.{cells_for};
 ghost use Rattle.attain.specs.Sides.{is_upper};
 ghost use Rattle.attain.specs.Cuts.{is_another, is_first, clock_if, last_behind};
 
+use crate::node_rows::NodeRows;
 use crate::side::Side;
 use cert::push_clock;
 use ports::fixed_line::{Line, first_word};
 use ports::{Failed, Sink, write_whole};
 use problem::Listing;
-use row_pool::Cell;
 
 // Whether the clock is another one than the last.
 fn is_another(last: Option<u32>, clock: u32) -> bool
@@ -69,19 +69,18 @@ fn write_first<N: Listing, O: Sink>(
 // not.
 pub fn write_cut<N: Listing, O: Sink>(
     names: &N,
+    rows: &NodeRows,
     side: Side,
-    cells: &[Cell],
     out: &mut O,
 ) -> Result<(), Failed>
-    requires nodes { All (λ r. r.2 < length cells.now) (N.listed names.now).readings }
-    requires rising { AllPairs (λ r s. r.0 ≤ s.0) (N.listed names.now).readings }
-    ensures { (inside : List ℕ) × AreClocksOf (N.listed names.now) (cells_of cells.now) (is_upper side) inside
+    requires listed { ListsGraph (N.listed names.now) rows.now.graph }
+    ensures { (inside : List ℕ) × AreClocksOf (N.listed names.now) (cells_for side rows.now) (is_upper side) inside
         × Writes (flat_map (written_inside (N.listed names.now)) inside) (O.told out.old) (O.told out.new) result }
 {
     let mut last = None;
     for place in 0..names.reading_count() {
         let (clock, _, node) = names.reading_at(place);
-        let first = is_first(side, cells[node as usize].known, last, clock);
+        let first = is_first(side, rows.is_known(side, node), last, clock);
         last = write_first(names, first, clock, last, out)?;
     }
     Ok(())

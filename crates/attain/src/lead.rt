@@ -1,113 +1,89 @@
 // The execution at a limit: known nodes at their differences, the others at their earliest values and one lead more.
-ghost use Rattle.std.specs.Prelude.{◌+◌, ◌≡◌, ◌<◌, ◌≤◌, true, length, All};
+ghost use Rattle.std.specs.Prelude.{◌+◌, ◌≡◌, ◌<◌, length};
 ghost use Rattle.problem_model.specs.Numbers.{IsUpTo};
 ghost use Rattle.problem_model.specs.Rows.{attaining};
 ghost use Rattle.problem_model.specs.Limits.{path_bits};
 ghost use Rattle.ports.specs.Content.{Writes};
-ghost use Rattle.problem.specs.Listing.{listed_nodes};
 ghost use Rattle.cert.specs.Listed.{listed_values};
-ghost use Rattle.row_pool.specs.Row.{cells_of};
-ghost use Rattle.attain.specs.Written.{AreMiddling};
+ghost use Rattle.attain.specs.Written.{ListsGraph};
+ghost use Rattle.attain.specs.RowLists.{IsKnown, cells_for};
 ghost use Rattle.attain.specs.Sides.{differences, lead, IsAsFar, IsLeadOf};
 
+use crate::node_rows::NodeRows;
 use crate::run::{node_at, node_count};
 use crate::side::Side;
 use cert::write_value;
-use earliest::Earliest;
 use ports::{Failed, Sink};
 use problem::Listing;
-use row_pool::Cell;
 
 // By how much the difference of a known node exceeds its earliest value.
-fn lead_at(side: Side, e: &Earliest, cells: &[Cell], node: u32) -> i128
-    requires solved { e.now.is_solved ≡ true }
-    requires node { node < length e.now.values }
-    requires cells { length e.now.values ≤ length cells.now }
-    requires sizes { AreMiddling (length e.now.values) e.now.values (cells_of cells.now) }
-    requires known { (cells_of cells.now).known node ≡ true }
-    ensures lead { result ≡ lead side (cells_of cells.now) e.now.values node }
+fn lead_at(rows: &NodeRows, side: Side, node: u32) -> i128
+    requires { IsKnown side rows.now node }
+    ensures lead { result ≡ lead side (cells_for side rows.now) rows.now.values node }
     ensures small { IsUpTo (path_bits + 2) result }
 {
-    side.difference(&cells[node as usize]) - e.value(node)
+    // It tells that known nodes are nodes of the graph.
+    rows.exact();
+    rows.difference(side, node) - rows.value(node)
 }
 
 // Of a known node and another one, the one whose lead is as far out as that of the other, if the other is known.
-fn farther(side: Side, e: &Earliest, cells: &[Cell], first: u32, other: u32) -> u32
-    requires solved { e.now.is_solved ≡ true }
-    requires first { first < length e.now.values }
-    requires other { other < length e.now.values }
-    requires cells { length e.now.values ≤ length cells.now }
-    requires sizes { AreMiddling (length e.now.values) e.now.values (cells_of cells.now) }
-    requires known { (cells_of cells.now).known first ≡ true }
-    ensures node { result < length e.now.values }
-    ensures known { (cells_of cells.now).known result ≡ true }
-    ensures first { IsAsFar side (lead side (cells_of cells.now) e.now.values result) (lead side (cells_of cells.now) e.now.values first) }
-    ensures other { (cells_of cells.now).known other ≡ true → IsAsFar side (lead side (cells_of cells.now) e.now.values result) (lead side (cells_of cells.now) e.now.values other) }
+fn farther(rows: &NodeRows, side: Side, first: u32, other: u32) -> u32
+    requires first { IsKnown side rows.now first }
+    requires other { other < length rows.now.graph.nodes }
+    ensures known { IsKnown side rows.now result }
+    ensures first { IsAsFar side (lead side (cells_for side rows.now) rows.now.values result) (lead side (cells_for side rows.now) rows.now.values first) }
+    ensures other { IsKnown side rows.now other → IsAsFar side (lead side (cells_for side rows.now) rows.now.values result) (lead side (cells_for side rows.now) rows.now.values other) }
 {
-    if !cells[other as usize].known {
+    if !rows.is_known(side, other) {
         return first;
     }
-    if side.is_as_far(
-        lead_at(side, e, cells, first),
-        lead_at(side, e, cells, other),
-    ) {
+    if side.is_as_far(lead_at(rows, side, first), lead_at(rows, side, other)) {
         return first;
     }
     other
 }
 
-// The greatest lead of the known nodes, or the least for the lower end. Node `p` is known.
-pub fn lead_of(side: Side, e: &Earliest, cells: &[Cell], nodes: u32, p: u32) -> i128
-    requires solved { e.now.is_solved ≡ true }
-    requires nodes { nodes ≡ length e.now.values }
-    requires cells { length e.now.values ≤ length cells.now }
-    requires sizes { AreMiddling (length e.now.values) e.now.values (cells_of cells.now) }
-    requires node { p < nodes }
-    requires known { (cells_of cells.now).known p ≡ true }
-    ensures lead { IsLeadOf side nodes (cells_of cells.now) e.now.values result }
+// The greatest lead of the known nodes, or the least for the lower end.
+pub fn lead_of(rows: &NodeRows, side: Side) -> i128
+    ensures lead { IsLeadOf side (length rows.now.graph.nodes) (cells_for side rows.now) rows.now.values result }
     ensures small { IsUpTo (path_bits + 2) result }
 {
-    let mut farthest = p;
-    for node in 0..nodes {
-        farthest = farther(side, e, cells, farthest, node);
+    // It tells that the node of the rows is known.
+    rows.exact();
+    let mut farthest = rows.node();
+    for node in 0..rows.nodes() {
+        farthest = farther(rows, side, farthest, node);
     }
-    lead_at(side, e, cells, farthest)
+    lead_at(rows, side, farthest)
 }
 
 // The real time of a node in the execution at the limit.
-pub fn real_time(side: Side, e: &Earliest, cells: &[Cell], lead: i128, node: u32) -> i128
-    requires solved { e.now.is_solved ≡ true }
-    requires node { node < length e.now.values }
-    requires cells { length e.now.values ≤ length cells.now }
-    requires sizes { AreMiddling (length e.now.values) e.now.values (cells_of cells.now) }
+pub fn real_time(rows: &NodeRows, side: Side, lead: i128, node: u32) -> i128
+    requires node { node < length rows.now.graph.nodes }
     requires small { IsUpTo (path_bits + 2) lead }
-    ensures { result ≡ attaining (cells_of cells.now).known (differences side (cells_of cells.now)) e.now.values lead node }
+    ensures { result ≡ attaining (cells_for side rows.now).known (differences side (cells_for side rows.now)) rows.now.values lead node }
 {
-    let cell = &cells[node as usize];
-    if cell.known {
-        return side.difference(cell);
+    if rows.is_known(side, node) {
+        return rows.difference(side, node);
     }
-    e.value(node) + lead
+    rows.value(node) + lead
 }
 
 // Writes the lines of the nodes, with their real times in the execution at the limit.
 pub fn write_times<N: Listing, O: Sink>(
     names: &N,
+    rows: &NodeRows,
     side: Side,
-    e: &Earliest,
-    cells: &[Cell],
     lead: i128,
     out: &mut O,
 ) -> Result<(), Failed>
-    requires solved { e.now.is_solved ≡ true }
-    requires one_each { All (λ k. k < length e.now.values) (listed_nodes (N.listed names.now)) }
-    requires cells { length e.now.values ≤ length cells.now }
-    requires sizes { AreMiddling (length e.now.values) e.now.values (cells_of cells.now) }
+    requires listed { ListsGraph (N.listed names.now) rows.now.graph }
     requires small { IsUpTo (path_bits + 2) lead }
-    ensures { Writes (listed_values (N.listed names.now) (attaining (cells_of cells.now).known (differences side (cells_of cells.now)) e.now.values lead)) (O.told out.old) (O.told out.new) result }
+    ensures { Writes (listed_values (N.listed names.now) (attaining (cells_for side rows.now).known (differences side (cells_for side rows.now)) rows.now.values lead)) (O.told out.old) (O.told out.new) result }
 {
     for place in 0..node_count(names) {
-        let time = real_time(side, e, cells, lead, node_at(names, place));
+        let time = real_time(rows, side, lead, node_at(names, place));
         write_value(names, place, time, out)?;
     }
     Ok(())

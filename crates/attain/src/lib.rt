@@ -13,6 +13,7 @@ mod ends;
 mod interval;
 pub mod laws;
 mod lead;
+mod node_rows;
 pub mod outcomes;
 mod part;
 mod path;
@@ -21,4 +22,5 @@ mod side;
 
 pub use cycle::write_cycle;
 pub use ends::write_ends;
+pub use node_rows::NodeRows;
 pub use run::write_run;

@@ -1,5 +1,6 @@
 -- What is at hand takes no step.
-use Rattle.std.proofs.Common.{◌≡◌, ◌==◌, ℕ, false, List, [], length, inl, inr, ◌∙◌, subst}
+use Rattle.std.proofs.Common.{◌≡◌, ◌==◌, ℕ, true, false, List, [], length, inl, inr, ◌∙◌, sym, subst, arith}
+use Rattle.std.proofs.lemmas.List.{nil_from_length}
 use Rattle.sync_graph.specs.declared.arc.Arc.{Arc}
 use Rattle.solver.specs.Solver.{SolverLists}
 use Rattle.queries.specs.Asking.{HasKeptRows, HoldsContradiction, IsAtHand, IsPairAtHand}
@@ -9,6 +10,10 @@ pub some_held : (s : SolverLists) (cycle : List Arc) → cycle ≡ s.contradicti
 some_held s cycle is some none =
     let wrong : (0 == 0) ≡ false = subst (λ (arcs : List Arc). (length arcs == 0) ≡ false) (is ∙ none) some in
     let z : ⊥ = cc in z
+
+-- and what is empty says that none is
+pub nothing_held : (s : SolverLists) (cycle : List Arc) → cycle ≡ s.contradiction → (length cycle == 0) ≡ true → s.contradiction ≡ []
+nothing_held s cycle is empty = sym is ∙ nil_from_length cycle (grind (arith, empty))
 
 module _ (s : SolverLists) (none : s.contradiction ≡ []) (Same : Type 0) where
   -- where no contradiction is held the node is kept

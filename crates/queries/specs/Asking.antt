@@ -7,6 +7,8 @@ use Rattle.repair.specs.declared.slot.Slot.{Slot}
 use Rattle.repair.specs.Slots.{slot_of}
 use Rattle.solver.specs.Solver.{SolverLists}
 use Rattle.solver.specs.Solution.{IsSolutionBy}
+use Rattle.problem_graph.specs.ListedStanding.{IsEventAt}
+use Rattle.attain.specs.Ends.{AreEventNodes}
 
 -- the rows of the node are kept
 abbrev pub HasKeptRows : SolverLists → ℕ → Type 0
@@ -35,3 +37,20 @@ IsListedReading l clock stamp number = (place : ℕ) × (slice_get l.readings pl
 -- the source's rows are those of this reading
 abbrev pub IsSourceReading : Listed → SolverLists → ℕ → ℕ → Type 0
 IsSourceReading l s clock stamp = (slot : Slot) × (s.kept.source ≡ Some slot) × IsListedReading l clock stamp slot.node
+
+-- the engine holds an execution of a listed problem, and both nodes are those of listed events
+pub record IsAskedOf (l : Listed) (s : SolverLists) (first second : ℕ) : Type 0 where
+  pub problem : ProblemLists
+  pub solution : IsSolutionBy l problem s
+  pub none : s.contradiction ≡ []
+  pub events : AreEventNodes l first second
+
+-- it holds one, the node is that of a listed event, and the source's reading has this stamp
+pub record IsAskedTime (l : Listed) (s : SolverLists) (stamp event : ℕ) : Type 0 where
+  pub problem : ProblemLists
+  pub solution : IsSolutionBy l problem s
+  pub none : s.contradiction ≡ []
+  pub clock : ℕ
+  pub source : IsSourceReading l s clock stamp
+  pub place : ℕ
+  pub at : IsEventAt l place event

@@ -11,6 +11,7 @@ use solver::Solver;
 pub fn is_consistent(solver: &Solver) -> bool
     ensures { (l : Listed) (p : ProblemLists) → IsSolutionBy l p solver.now → IsConsistent p result }
 {
+    // They tell what the values of nodes are, and what a contradiction shows.
     executions();
     contradictions();
     solver.earliest().solved()

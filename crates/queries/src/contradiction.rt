@@ -23,6 +23,7 @@ pub fn write_contradiction<N: Listing, O: Sink>(
     ensures { (p : ProblemLists) → IsHeldContradiction (N.listed names.now) p cycle.now
         → (text : List ℕ) × IsContradictionText p text × Writes text (O.told out.old) (O.told out.new) result }
 {
+    // It tells what a contradiction shows.
     contradictions();
     write_cycle(names, cycle, out)
 }

@@ -1,19 +1,19 @@
 // The certificate of the interval of two events.
-ghost use Rattle.std.specs.Prelude.{◌≡◌, ◌≤◌, ℕ, List, []};
+ghost use Rattle.std.specs.Prelude.{◌≡◌, ◌≤◌};
 ghost use Rattle.problem_model.specs.Problem.{ProblemLists};
 ghost use Rattle.ports.specs.Content.{Writes};
 ghost use Rattle.problem.specs.Listing.{Listed};
-ghost use Rattle.problem_graph.specs.ListedStanding.{IsEventAt};
 ghost use Rattle.attain.specs.Ends.{AreRowsAt, AreEventNodes};
 ghost use Rattle.row_pool.specs.Pool.{free_rows};
 ghost use Rattle.solver.specs.Changes.{LeavesAnswer};
 ghost use Rattle.solver.specs.Solution.{IsSolutionBy};
-ghost use Rattle.queries.specs.Asking.{IsAtHand};
-ghost use Rattle.queries.specs.Replies.{IsProofText, Replies};
+ghost use Rattle.queries.specs.Asking.{IsAskedOf, IsAtHand};
+ghost use Rattle.queries.specs.Replies.{IsProofText};
+ghost use Rattle.queries.specs.Answers.{RepliesFor};
 
 use crate::contradiction::write_contradiction;
 use crate::executions;
-use attain::write_ends;
+use attain::{NodeRows, write_ends};
 use atto::Steps;
 use ports::{Failed, Sink};
 use problem::Listing;
@@ -21,35 +21,23 @@ use row_pool::Cell;
 use solver::Solver;
 use std::sync::ledger::Ledger;
 
-// Writes the certificate by the rows of the first node.
+// Writes the certificate of two events by the rows of the first one's node.
 fn write_by<N: Listing, O: Sink>(
     names: &N,
     solver: &Solver,
     from: &[Cell],
     to: &[Cell],
-    first: u32,
-    second: u32,
+    events: (u32, u32),
     out: &mut O,
 ) -> Result<(), Failed>
-    requires solution { (p : ProblemLists) × IsSolutionBy (N.listed names.now) p solver.now }
-    requires solved { solver.now.contradiction ≡ [] }
-    requires rows { AreRowsAt solver.now.graph first from.now to.now }
-    requires events { AreEventNodes (N.listed names.now) first second }
-    ensures { (p : ProblemLists) (i j : ℕ) → IsSolutionBy (N.listed names.now) p solver.now
-        → IsEventAt (N.listed names.now) i first → IsEventAt (N.listed names.now) j second
-        → (text : List ℕ) × Replies p (IsProofText p i j) text × Writes text (O.told out.old) (O.told out.new) result }
+    requires asked { IsAskedOf (N.listed names.now) solver.now events.0 events.1 }
+    requires rows { AreRowsAt solver.now.graph events.0 from.now to.now }
+    ensures { RepliesFor (N.listed names.now) solver.now events.0 events.1 IsProofText (λ text. Writes text (O.told out.old) (O.told out.new) result) }
 {
+    // It tells what the values of nodes are.
     executions();
-    write_ends(
-        names,
-        solver.graph(),
-        solver.earliest(),
-        from,
-        to,
-        first,
-        second,
-        out,
-    )
+    let rows = NodeRows::new(solver.graph(), solver.earliest(), events.0, from, to);
+    write_ends(names, &rows, events.1, out)
 }
 
 // Writes the certificate by rows that are lent for it.
@@ -61,18 +49,14 @@ fn write_lent<N: Listing, O: Sink, L: Ledger>(
     out: &mut O,
     steps: &mut Steps<L>,
 ) -> Result<(), Failed>
-    requires solution { (p : ProblemLists) × IsSolutionBy (N.listed names.now) p solver.old }
-    requires solved { solver.old.contradiction ≡ [] }
-    requires events { AreEventNodes (N.listed names.now) first second }
+    requires asked { IsAskedOf (N.listed names.now) solver.old first second }
     requires free { 2 ≤ free_rows solver.old.pool }
-    ensures writes { (p : ProblemLists) (i j : ℕ) → IsSolutionBy (N.listed names.now) p solver.old
-        → IsEventAt (N.listed names.now) i first → IsEventAt (N.listed names.now) j second
-        → (text : List ℕ) × Replies p (IsProofText p i j) text × Writes text (O.told out.old) (O.told out.new) result }
+    ensures writes { RepliesFor (N.listed names.now) solver.old first second IsProofText (λ text. Writes text (O.told out.old) (O.told out.new) result) }
     ensures leaves { LeavesAnswer solver.old solver.new }
 {
     let rows = solver.lend(first, steps);
     let (from, to) = solver.lent(&rows);
-    let written = write_by(names, solver, from, to, first, second, out);
+    let written = write_by(names, solver, from, to, (first, second), out);
     solver.give_back(rows);
     written
 }
@@ -86,18 +70,14 @@ fn write_answer<N: Listing, O: Sink, L: Ledger>(
     out: &mut O,
     steps: &mut Steps<L>,
 ) -> Result<(), Failed>
-    requires solution { (p : ProblemLists) × IsSolutionBy (N.listed names.now) p solver.old }
-    requires solved { solver.old.contradiction ≡ [] }
-    requires events { AreEventNodes (N.listed names.now) first second }
+    requires asked { IsAskedOf (N.listed names.now) solver.old first second }
     requires free { 2 ≤ free_rows solver.old.pool }
-    ensures writes { (p : ProblemLists) (i j : ℕ) → IsSolutionBy (N.listed names.now) p solver.old
-        → IsEventAt (N.listed names.now) i first → IsEventAt (N.listed names.now) j second
-        → (text : List ℕ) × Replies p (IsProofText p i j) text × Writes text (O.told out.old) (O.told out.new) result }
+    ensures writes { RepliesFor (N.listed names.now) solver.old first second IsProofText (λ text. Writes text (O.told out.old) (O.told out.new) result) }
     ensures leaves { LeavesAnswer solver.old solver.new }
     ensures steps { IsAtHand solver.old first → steps.new ≡ steps.old }
 {
     match solver.rows_of(first) {
-        Some((from, to)) => write_by(names, solver, from, to, first, second, out),
+        Some((from, to)) => write_by(names, solver, from, to, (first, second), out),
         None => write_lent(names, solver, first, second, out, steps),
     }
 }
@@ -120,9 +100,7 @@ pub fn write_proof<N: Listing, O: Sink, L: Ledger>(
     requires solution { (p : ProblemLists) × IsSolutionBy (N.listed names.now) p solver.old }
     requires events { AreEventNodes (N.listed names.now) first second }
     requires free { 2 ≤ free_rows solver.old.pool }
-    ensures writes { (p : ProblemLists) (i j : ℕ) → IsSolutionBy (N.listed names.now) p solver.old
-        → IsEventAt (N.listed names.now) i first → IsEventAt (N.listed names.now) j second
-        → (text : List ℕ) × Replies p (IsProofText p i j) text × Writes text (O.told out.old) (O.told out.new) result }
+    ensures writes { RepliesFor (N.listed names.now) solver.old first second IsProofText (λ text. Writes text (O.told out.old) (O.told out.new) result) }
     ensures leaves { LeavesAnswer solver.old solver.new }
     ensures solution { (l : Listed) (p : ProblemLists) → IsSolutionBy l p solver.old → IsSolutionBy l p solver.new }
     ensures steps { IsAtHand solver.old first → steps.new ≡ steps.old }

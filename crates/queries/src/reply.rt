@@ -1,39 +1,25 @@
 // The interval or the order of two events, or a contradiction.
-ghost use Rattle.std.specs.Prelude.{◌≡◌, ◌<◌, ℕ, List, []};
-ghost use Rattle.problem_model.specs.declared.items.Node.TheVariants as nodes;
+ghost use Rattle.std.specs.Prelude.{◌≡◌, ◌<◌};
 ghost use Rattle.problem_model.specs.Problem.{ProblemLists};
 ghost use Rattle.ports.specs.Content.{Writes};
 ghost use Rattle.problem.specs.Listing.{Listed};
-ghost use Rattle.problem_graph.specs.ListedStanding.{IsEventAt};
 ghost use Rattle.attain.specs.Ends.{AreEventNodes};
 ghost use Rattle.row_pool.specs.Pool.{free_rows};
-ghost use Rattle.intervals.specs.Ends.{FitsPair};
-ghost use Rattle.intervals.specs.Executions.{IsPairOf};
 ghost use Rattle.solver.specs.Changes.{LeavesAnswer};
 ghost use Rattle.solver.specs.Solution.{IsSolutionBy};
-ghost use Rattle.queries.specs.Asking.{IsPairAtHand};
-ghost use Rattle.queries.specs.Replies.{IsComparisonLine, Replies};
+ghost use Rattle.queries.specs.Asking.{IsAskedOf, IsPairAtHand};
+ghost use Rattle.queries.specs.Replies.{IsComparisonLine};
+ghost use Rattle.queries.specs.Answers.{RepliesFor};
 
-use crate::comparison::{Asked, Comparison};
+use crate::comparison::Comparison;
 use crate::contradiction::write_contradiction;
 use crate::lines::line_for;
 use crate::{executions, pairs};
 use atto::Steps;
 use ports::{Failed, Sink, write_whole};
 use problem::Listing;
-use row_pool::Pair;
 use solver::Solver;
 use std::sync::ledger::Ledger;
-
-// Writes the line that answers what is asked of two events, by their greatest differences in both directions.
-fn write_line<O: Sink>(asked: Asked, pair: Pair, out: &mut O) -> Result<(), Failed>
-    requires { FitsPair pair }
-    ensures { (p : ProblemLists) (first second : ℕ) → IsPairOf p (nodes.Event first) (nodes.Event second) pair
-        → (text : List ℕ) × IsComparisonLine asked p first second text × Writes text (O.told out.old) (O.told out.new) result }
-{
-    let line = line_for(asked, pair);
-    write_whole(out, line.as_slice())
-}
 
 // Writes the answer where there is an execution.
 fn write_answer<N: Listing, O: Sink, L: Ledger>(
@@ -43,20 +29,18 @@ fn write_answer<N: Listing, O: Sink, L: Ledger>(
     out: &mut O,
     steps: &mut Steps<L>,
 ) -> Result<(), Failed>
-    requires solution { (p : ProblemLists) × IsSolutionBy (N.listed names.now) p solver.old }
-    requires solved { solver.old.contradiction ≡ [] }
-    requires events { AreEventNodes (N.listed names.now) question.first question.second }
+    requires asked { IsAskedOf (N.listed names.now) solver.old question.first question.second }
     requires free { 0 < free_rows solver.old.pool }
-    ensures writes { (p : ProblemLists) (i j : ℕ) → IsSolutionBy (N.listed names.now) p solver.old
-        → IsEventAt (N.listed names.now) i question.first → IsEventAt (N.listed names.now) j question.second
-        → (text : List ℕ) × Replies p (IsComparisonLine question.asked p i j) text × Writes text (O.told out.old) (O.told out.new) result }
+    ensures writes { RepliesFor (N.listed names.now) solver.old question.first question.second (IsComparisonLine question.asked) (λ text. Writes text (O.told out.old) (O.told out.new) result) }
     ensures leaves { LeavesAnswer solver.old solver.new }
     ensures steps { IsPairAtHand solver.old question.first question.second → steps.new ≡ steps.old }
 {
+    // They tell what the values of nodes are, and what greatest differences are.
     executions();
     pairs();
     let pair = solver.pair(question.first, question.second, steps);
-    write_line(question.asked, pair, out)
+    let line = line_for(question.asked, pair);
+    write_whole(out, line.as_slice())
 }
 
 /// Writes the line that answers what is asked of two events, or the certificate of a contradiction where there is no
@@ -78,9 +62,7 @@ pub fn write_comparison<N: Listing, O: Sink, L: Ledger>(
     requires solution { (p : ProblemLists) × IsSolutionBy (N.listed names.now) p solver.old }
     requires events { AreEventNodes (N.listed names.now) question.first question.second }
     requires free { 0 < free_rows solver.old.pool }
-    ensures writes { (p : ProblemLists) (i j : ℕ) → IsSolutionBy (N.listed names.now) p solver.old
-        → IsEventAt (N.listed names.now) i question.first → IsEventAt (N.listed names.now) j question.second
-        → (text : List ℕ) × Replies p (IsComparisonLine question.asked p i j) text × Writes text (O.told out.old) (O.told out.new) result }
+    ensures writes { RepliesFor (N.listed names.now) solver.old question.first question.second (IsComparisonLine question.asked) (λ text. Writes text (O.told out.old) (O.told out.new) result) }
     ensures leaves { LeavesAnswer solver.old solver.new }
     ensures solution { (l : Listed) (p : ProblemLists) → IsSolutionBy l p solver.old → IsSolutionBy l p solver.new }
     ensures steps { IsPairAtHand solver.old question.first question.second → steps.new ≡ steps.old }

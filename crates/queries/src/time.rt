@@ -1,5 +1,5 @@
 // The time of an event by a clock that keeps time.
-ghost use Rattle.std.specs.Prelude.{◌≡◌, ℕ, List, []};
+ghost use Rattle.std.specs.Prelude.{ℕ, List};
 ghost use Rattle.problem_model.specs.declared.items.Node.TheVariants as nodes;
 ghost use Rattle.problem_model.specs.Problem.{ProblemLists};
 ghost use Rattle.problem_model.specs.Bounds.{IsReading};
@@ -8,9 +8,10 @@ ghost use Rattle.problem_graph.specs.ListedStanding.{IsEventAt};
 ghost use Rattle.intervals.specs.Ends.{FitsPair};
 ghost use Rattle.intervals.specs.Executions.{IsPairOf};
 ghost use Rattle.solver.specs.Solution.{IsSolutionBy};
-ghost use Rattle.queries.specs.Asking.{IsSourceReading};
+ghost use Rattle.queries.specs.Asking.{IsAskedTime, IsSourceReading};
 ghost use Rattle.queries.specs.Clocks.{KeepsTime};
-ghost use Rattle.queries.specs.Replies.{IsTimeLine, Replies};
+ghost use Rattle.queries.specs.Replies.{IsTimeLine};
+ghost use Rattle.queries.specs.Answers.{RepliesWithTime};
 
 use crate::contradiction::write_contradiction;
 use crate::lines::time_line;
@@ -42,14 +43,10 @@ fn write_answer<N: Listing, O: Sink>(
     event: u32,
     out: &mut O,
 ) -> Result<(), Failed>
-    requires solution { (p : ProblemLists) × IsSolutionBy (N.listed names.now) p solver.now }
-    requires solved { solver.now.contradiction ≡ [] }
-    requires source { (clock : ℕ) × IsSourceReading (N.listed names.now) solver.now clock stamp }
-    requires event { (place : ℕ) × IsEventAt (N.listed names.now) place event }
-    ensures { (p : ProblemLists) (clock place : ℕ) → IsSolutionBy (N.listed names.now) p solver.now → KeepsTime p clock
-        → IsSourceReading (N.listed names.now) solver.now clock stamp → IsEventAt (N.listed names.now) place event
-        → (text : List ℕ) × Replies p (IsTimeLine p clock place) text × Writes text (O.told out.old) (O.told out.new) result }
+    requires { IsAskedTime (N.listed names.now) solver.now stamp event }
+    ensures { RepliesWithTime (N.listed names.now) solver.now stamp event (λ text. Writes text (O.told out.old) (O.told out.new) result) }
 {
+    // They tell what the values of nodes are, and what greatest differences are.
     executions();
     pairs();
     match solver.source_pair(event) {
@@ -76,9 +73,7 @@ pub fn write_time<N: Listing, O: Sink>(
     requires solution { (p : ProblemLists) × IsSolutionBy (N.listed names.now) p solver.now }
     requires source { (clock : ℕ) × IsSourceReading (N.listed names.now) solver.now clock stamp }
     requires event { (place : ℕ) × IsEventAt (N.listed names.now) place event }
-    ensures { (p : ProblemLists) (clock place : ℕ) → IsSolutionBy (N.listed names.now) p solver.now → KeepsTime p clock
-        → IsSourceReading (N.listed names.now) solver.now clock stamp → IsEventAt (N.listed names.now) place event
-        → (text : List ℕ) × Replies p (IsTimeLine p clock place) text × Writes text (O.told out.old) (O.told out.new) result }
+    ensures { RepliesWithTime (N.listed names.now) solver.now stamp event (λ text. Writes text (O.told out.old) (O.told out.new) result) }
 {
     let cycle = solver.contradiction();
     if cycle.is_empty() {

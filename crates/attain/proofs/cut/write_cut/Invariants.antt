@@ -1,6 +1,6 @@
 use Rattle.std.proofs.Common.{None}
-use Rattle.row_pool.specs.Row.{cells_of}
 use Rattle.ports.proofs.Writing.{Leaves}
+use Rattle.attain.specs.RowLists.{cells_for}
 use Rattle.attain.specs.Sides.{is_upper}
 use Rattle.attain.proofs.Cutting.{inside_from}
 use Rattle.attain.proofs.cut.write_cut.Given as goal
@@ -9,4 +9,4 @@ use Rattle.attain.proofs.cut.write_cut.Given as goal
 abbrev pub invariant-loop-place : goal.invariant-loop-place
 invariant-loop-place g l =
     Leaves (g.O.Sink.told l.initial.out) (g.O.Sink.told l.out)
-    (inside_from (g.N.Listing.listed l.names) (is_upper l.side) (cells_of l.cells) l.last l.place) (inside_from (g.N.Listing.listed l.names) (is_upper l.side) (cells_of l.cells) None 0)
+    (inside_from (g.N.Listing.listed l.names) (is_upper l.side) (cells_for l.side l.rows) l.last l.place) (inside_from (g.N.Listing.listed l.names) (is_upper l.side) (cells_for l.side l.rows) None 0)

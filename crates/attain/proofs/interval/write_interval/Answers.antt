@@ -10,7 +10,11 @@ use Rattle.attain.proofs.interval.write_interval.Goals as goal
 pub returns-in_err-write_whole : goal.returns-in_err-write_whole
 returns-in_err-write_whole g c =
     let l = g.N.Listing.listed c.args.names.now in
-    let some = interval_there l c.args.g.now c.args.e.now.values (cells_of c.args.from.now) (cells_of c.args.to.now) c.args.p c.args.q c.requires.row_from c.requires.row_to c.requires.rising c.requires.first c.requires.second in
+    let r = c.args.rows.now in
+    let at = c.requires.events.2 in
+    let at' = c.requires.events.3 in
+    let some = interval_there l r.graph r.values (cells_of r.from) (cells_of r.to) r.node c.args.q c.exact.ensures.at_node.from_node c.exact.ensures.at_node.to_node c.requires.listed.rising
+    (at.0, (c.requires.events.0, at.1)) (at'.0, (c.requires.events.1, at'.1)) in
     (certified some.0, (some.0, some.1, refl), writes_failed c.from_residual.ensures.0 (writes_front (line_of (codes "end" ∷ [])) (writes_front some.0 c.in_err-write_whole.ensures)))
 
 pub returns-in_err-write_ends_lines : goal.returns-in_err-write_ends_lines

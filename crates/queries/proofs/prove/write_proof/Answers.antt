@@ -1,8 +1,16 @@
 use Rattle.std.proofs.Common.{inr, sym, ◌∙◌}
 use Rattle.solver.proofs.Staying.{leaves_all}
-use Rattle.queries.proofs.Hands.{some_held}
+use Rattle.queries.proofs.Hands.{some_held, nothing_held}
 use Rattle.queries.proofs.Solutions.{goes_on}
 use Rattle.queries.proofs.prove.write_proof.Goals as goal
+
+pub write_answer-requires-clause-asked : goal.write_answer-requires-clause-asked
+write_answer-requires-clause-asked g c = record {
+  problem = c.requires.solution.0;
+  solution = c.requires.solution.1;
+  none = nothing_held c.args.solver.now c.contradiction-cycle.result.now c.contradiction-cycle.ensures.value (sym c.is_empty.ensures ∙ c.if-is_empty.true);
+  events = c.requires.events;
+}
 
 pub returns-then-is_empty-clause-solution : goal.returns-then-is_empty-clause-solution
 returns-then-is_empty-clause-solution g c = λ l p solution. goes_on l p c.args.solver.now c.write_answer.new.solver c.write_answer.ensures.leaves.answer c.write_answer.ensures.leaves.current solution

@@ -8,22 +8,22 @@ use Rattle.queries.proofs.time.write_answer.Goals as goal
 
 pub source_pair-requires-clause-q : goal.source_pair-requires-clause-q
 source_pair-requires-clause-q g c =
-    event_below (g.N.Listing.listed c.args.names.now) c.requires.solution.0 c.args.solver.now c.requires.solution.1 c.requires.event.0 c.args.event c.requires.event.1
+    event_below (g.N.Listing.listed c.args.names.now) c.requires.problem c.args.solver.now c.requires.solution c.requires.place c.args.event c.requires.at
 
 pub write_line-requires : goal.write_line-requires
 write_line-requires g c =
     let l = g.N.Listing.listed c.args.names.now in
-    let p = c.requires.solution.0 in
+    let p = c.requires.problem in
     let s = c.args.solver.now in
-    let solution = c.requires.solution.1 in
+    let solution = c.requires.solution in
     let told = c.in-Some.ensures in
-    let reads = slot_reading l p s solution told.0 told.1 c.requires.source.0 c.args.stamp c.requires.source.1 in
-    c.pairs.ensures.fits l p s told.0.node c.args.event c.in-Some.pair solution c.requires.solved
-    (reading_below l p s solution c.requires.source.0 c.args.stamp told.0.node reads) (event_below l p s solution c.requires.event.0 c.args.event c.requires.event.1) told.2
+    let reads = slot_reading l p s solution told.0 told.1 c.requires.clock c.args.stamp c.requires.source in
+    c.pairs.ensures.fits l p s told.0.node c.args.event c.in-Some.pair solution c.requires.none
+    (reading_below l p s solution c.requires.clock c.args.stamp told.0.node reads) (event_below l p s solution c.requires.place c.args.event c.requires.at) told.2
 
 pub unreachable-requires : goal.unreachable-requires
 unreachable-requires g c =
-    let source = c.requires.source.1 in
+    let source = c.requires.source in
     none-some source.0 (sym c.in-None.ensures ∙ source.1)
 
 pub returns : goal.returns
@@ -32,7 +32,7 @@ returns g c = λ p clock place solution keeps source at.
     let s = c.args.solver.now in
     let rs = all_readings p.events in
     let are = own_readings p in
-    let none = c.requires.solved in
+    let none = c.requires.none in
     let told = c.in-Some.ensures in
     let some = c.executions.ensures.earliest l p rs s are solution none in
     let reads = slot_reading l p s solution told.0 told.1 clock c.args.stamp source in
