@@ -13,7 +13,4 @@ TEXT
 }
 
 @FUNCTIONS@
-# Where there is no Python, an input that was set not to wait stays as it is.
-command -v python3 >/dev/null || is_hasty() { return 1; }
-
 @REST@

@@ -5,23 +5,27 @@
 
 What no contract can say is looked at here: that the exit status is that of the run, for each status from 0 to 12; that
 a session answers a line before it reads the next one; that files, input and output are read and written whole where the
-host gives or takes a part at a time, or fails; that notes come on the standard error; and that sizes just above the
-small ones of other tests do not end in want of memory. With WORD only cases whose names have it are run. PROGRAM names
-the program, else it is the one that is built here. Reads and writes fail or are cut by a library of fail_calls.c, which
-is built here with cc and loaded before the C library.
+host gives or takes a part at a time, or fails; that streams which were set not to wait are waited for; that notes come
+on the standard error; and that sizes just above the small ones of other tests do not end in want of memory. With WORD
+only cases whose names have it are run. PROGRAM names the program, else it is the one that is built here. Reads and
+writes fail or are cut by a library of fail_calls.c, which is built here with cc and loaded before the C library.
 """
 
 from __future__ import annotations
 
 import argparse
+import fcntl
 import os
 import resource
 import select
+import socket
 import struct
 import subprocess
 import sys
 import tempfile
+import termios
 import threading
+import time
 from collections.abc import Callable, Iterable
 from dataclasses import dataclass
 
@@ -338,6 +342,68 @@ def cut_block(room: Room) -> None:
     agree(found, 0, want)
 
 
+# ---- streams that were set not to wait (O_NONBLOCK)
+
+
+def waited_inputs(room: Room) -> None:
+    """A pipe without anything ready is waited for, at its first byte and behind a reply, and stays set as it was."""
+    logs(room)
+    read, write = os.pipe()
+    os.set_blocking(read, False)
+    words, piped = [PROGRAM, "session", "hosts.toml"], subprocess.PIPE
+    with subprocess.Popen(words, stdin=read, stdout=piped, cwd=room.folder) as ran:
+        try:
+            for piece in ("add a a.csv\nad", "d b b.csv\n", "interval a#1 b#1\n"):
+                time.sleep(0.3)
+                os.write(write, piece.encode())
+            os.close(write)
+            agree(Ran(ran.wait(SECONDS), ran.stdout.read()), 0, ADDED + BETWEEN)
+        finally:
+            ran.kill()
+    if os.get_blocking(read):
+        raise Failed("the pipe is set to wait now")
+    os.close(read)
+
+
+def ready(pipe: int) -> int:
+    """How many bytes a pipe holds."""
+    return struct.unpack("i", fcntl.ioctl(pipe, termios.FIONREAD, bytes(4)))[0]
+
+
+def waited_outputs(room: Room) -> None:
+    """A pipe that is full is waited for: its reader gets a reply of over 64 KiB whole."""
+    logs(room)
+    count = 8_000
+    room.write("long.csv", long_log(count))
+    script = room.write("script.txt", "add a long.csv\nmerge\nx\n")
+    read, write = os.pipe()
+    os.set_blocking(write, False)
+    with open(f"{room.folder}/{script}", "rb") as asked, open(read, "rb") as out:
+        with subprocess.Popen([PROGRAM, "session", "hosts.toml"], stdin=asked, stdout=write, cwd=room.folder) as ran:
+            try:
+                os.close(write)
+                # (it holds 65,536 bytes, but for less than a line at the end of each page)
+                while ready(read) < 60_000 and ran.poll() is None:
+                    time.sleep(0.05)
+                time.sleep(0.3)
+                found = out.read()
+                merged = f"merge {count}\n" + "".join(f"{n * 10}.000000000 a#{n + 1}\n" for n in range(count))
+                agree(Ran(ran.wait(SECONDS), found), 0, f"{added(count)}{merged}refused 20\n")
+            finally:
+                ran.kill()
+
+
+def hasty_sockets(room: Room) -> None:
+    """A socket cannot be opened anew: one without anything ready is a read fault."""
+    logs(room)
+    ours, theirs = socket.socketpair()
+    theirs.setblocking(False)
+    kept = {"stdin": theirs, "stdout": subprocess.PIPE, "cwd": room.folder, "timeout": SECONDS}
+    with ours, theirs:
+        done = subprocess.run([PROGRAM, "session", "hosts.toml"], **kept)
+    agree(Ran(done.returncode, done.stdout), 7, "read fault\n")
+
+
 # ---- notes
 
 
@@ -419,7 +485,8 @@ def contradictions(room: Room) -> None:
 
 CASES: list[Callable[[Room], None]] = [
     statuses, full_outputs, little_memory, long_script, replies_at_once, long_inputs, interrupted_calls, piped_files,
-    failing_reads, cut_block, notes, many_events, withdrawals, contradictions,
+    failing_reads, cut_block, waited_inputs, waited_outputs, hasty_sockets, notes, many_events, withdrawals,
+    contradictions,
 ]
 
 

@@ -5,7 +5,6 @@ import shutil
 import signal
 import subprocess
 import tempfile
-import time
 import unittest
 
 from common import TOP
@@ -55,19 +54,6 @@ class Wrapper(unittest.TestCase):
         assert ran.stdout
         self.addCleanup(ran.stdout.close)
         self.assertEqual(ran.stdout.readline(), f"{ran.pid} sleep\n")
-
-    def test_an_input_that_does_not_wait_is_waited_for(self) -> None:
-        read, write = os.pipe()
-        os.set_blocking(read, False)
-        with subprocess.Popen([f"{self.room}/tracesync", "read"], stdin=read, stdout=subprocess.PIPE, text=True) as ran:
-            assert ran.stdout
-            self.assertEqual(ran.stdout.readline(), f"{ran.pid} read\n")
-            time.sleep(0.5)
-            os.write(write, b"late\n")
-            os.close(write)
-            os.close(read)
-            self.assertEqual(ran.stdout.read(), "late\n")
-        self.assertEqual(ran.returncode, 0)
 
     def test_no_signal_leaves_the_program_running(self) -> None:
         for number in (signal.SIGKILL, signal.SIGTERM, signal.SIGINT, signal.SIGHUP, signal.SIGQUIT):

@@ -2,6 +2,9 @@
 //! certificates, and answers questions about event logs and packet captures.
 #![tactic(auto)]
 
+mod waiting;
+
+use crate::waiting::Waiting;
 use commands::run_to_end;
 use ports::{DiskFiles, StdSink, StdSource, Words};
 use problem_commands::Status;
@@ -21,9 +24,9 @@ fn words_of(rt: &HostRuntime) -> io::Result<Words> {
 // Runs the command over the files, the standard input, the standard output and the standard error.
 fn run_over_host(rt: &HostRuntime, words: &Words) -> Status {
     let mut files = DiskFiles::new(rt.alloc(), rt);
-    let mut input = StdSource::new(rt.reader());
-    let out = StdSink::new(io::writer(rt));
-    let mut notes = StdSink::new(rt.stderr());
+    let mut input = StdSource::new(Waiting::new(rt.reader(), rt, "/proc/self/fd/0"));
+    let out = StdSink::new(Waiting::new(io::writer(rt), rt, "/proc/self/fd/1"));
+    let mut notes = StdSink::new(Waiting::new(rt.stderr(), rt, "/proc/self/fd/2"));
     run_to_end(rt.alloc(), words, &mut files, &mut input, out, &mut notes).1
 }
 
