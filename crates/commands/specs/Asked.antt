@@ -97,4 +97,4 @@ help_text =
 
 -- the number of the version, by the changelog
 abbrev pub version_text : List ℕ
-version_text = codes "tracesync 22\n"
+version_text = codes "tracesync 23\n"

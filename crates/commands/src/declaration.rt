@@ -22,6 +22,15 @@ pub enum Undeclared {
     Memory,
 }
 
+/// The file of a declaration, with the memory for what stands there.
+#[derive(Clone, Copy)]
+pub struct DeclFile<'a> {
+    /// Where memory comes from.
+    pub alloc: Global,
+    /// The path of the file.
+    pub path: &'a str,
+}
+
 /// The declaration in a file, or why there is none.
 pub fn decl_in<F: Files>(alloc: Global, files: &mut F, path: &str) -> Result<Decl, Undeclared>
     ensures lawful { IfOk result (λ d. IsDeclaration (declaration_of d)) }

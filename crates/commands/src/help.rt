@@ -6,7 +6,7 @@ const USAGE: &[u8] =
     b"usage: tracesync obey PROBLEM EXEC | solve PROBLEM | ends PROBLEM P Q | verify PROBLEM CERT | session DECL | trial N | widen PROBLEM | judge PROBLEM WIDENING | mergecap DECL | --help | --version\n";
 
 // The number of the newest entry of CHANGELOG.md.
-const VERSION: &[u8] = b"tracesync 22\n";
+const VERSION: &[u8] = b"tracesync 23\n";
 
 // tracesync prints these lines where no program is built.
 const HELP: &[u8] = br"usage: tracesync COMMAND WORD..

@@ -10,7 +10,7 @@ ghost use Rattle.commands.specs.MergedCapture.{MergedAt, NotedAt, TellsUnmerged}
 ghost use Rattle.problem_commands.specs.Printing.{Closes, IsOnlyText, Prints};
 ghost use Rattle.problem_commands.specs.declared.status.Status.TheVariants as statuses;
 
-use crate::declaration::decl_in;
+use crate::declaration::{DeclFile, decl_in};
 use crate::sessions::refuse;
 use atto::Steps;
 use merge_script::{Unmerged, merge_script};
@@ -18,7 +18,6 @@ use mergecap::{Stored, write_capture};
 use ports::{Failed, Files, Sink, Source, write_whole};
 use problem_commands::Status;
 use problem_commands::last_line::finish;
-use std::alloc::Global;
 use std::sync::ledger::Ledger;
 
 // Writes a reply, which has no line feed, as a line.
@@ -72,23 +71,22 @@ fn print<O: Sink>(ordered: &[Stored], out: &mut O) -> Status
 /// Prints the packets of all captures that a script adds, in a session over the declaration in a file, as one capture. What there
 /// is to tell of the captures beside it goes to `notes`.
 pub fn mergecap<F: Files, I: Source, O: Sink, N: Sink, L: Ledger>(
-    alloc: Global,
+    file: &DeclFile,
     files: &mut F,
-    decl: &str,
     input: &mut I,
     out: &mut O,
     steps: &mut Steps<L>,
     notes: &mut N,
 ) -> Status
-    ensures merged { Prints (MergedAt decl.now (reads (F.told files.old) (I.told input.old)) (reads (F.told files.new) (I.told input.new))) (O.told out.old) (O.told out.new) result }
-    ensures noted { NotedAt decl.now (reads (F.told files.old) (I.told input.old)) (reads (F.told files.new) (I.told input.new)) (N.told notes.old) (N.told notes.new) result }
+    ensures merged { Prints (MergedAt file.now.path.now (reads (F.told files.old) (I.told input.old)) (reads (F.told files.new) (I.told input.new))) (O.told out.old) (O.told out.new) result }
+    ensures noted { NotedAt file.now.path.now (reads (F.told files.old) (I.told input.old)) (reads (F.told files.new) (I.told input.new)) (N.told notes.old) (N.told notes.new) result }
     ensures keeps { Keeps (F.told files.old) (F.told files.new) }
 {
-    let decl = match decl_in(alloc, files, decl) {
+    let decl = match decl_in(file.alloc, files, file.path) {
         Ok(decl) => decl,
         Err(undeclared) => return refuse(undeclared, out),
     };
-    match merge_script(alloc, decl, files, input, steps, notes) {
+    match merge_script(file.alloc, decl, files, input, steps, notes) {
         Ok(ordered) => print(&ordered, out),
         Err(why) => tell(why, out),
     }

@@ -6,6 +6,7 @@ ghost use Rattle.commands.specs.Asked.{asked_of, seen_request, ReadsNoFile, Read
 ghost use Rattle.commands.specs.Runs.{Answers, Notes};
 ghost use Rattle.commands.specs.Complete.{IsLawfulInput, IsFaultless, IsAnswered};
 
+use crate::declaration::DeclFile;
 use crate::help::{help, usage, version};
 use crate::merged::mergecap;
 use crate::request::{Request, request_of};
@@ -15,7 +16,7 @@ use atto::Steps;
 use ports::{Files, Sink, Source, Words};
 use problem::problem_answers_are_one;
 use problem_commands::Status;
-use problem_commands::ends::ends;
+use problem_commands::ends::{TwoNames, ends};
 use problem_commands::judge::judge;
 use problem_commands::last_line::finish;
 use problem_commands::obey::obey;
@@ -26,10 +27,16 @@ use std::alloc::Global;
 use std::marker::Brand;
 use std::sync::ledger::{Blank, Ledger};
 
+// What is asked for, with the memory for it.
+#[derive(Clone, Copy)]
+struct Task<'a> {
+    alloc: Global,
+    request: Request<'a>,
+}
+
 // Does what is asked for, and counts its steps by this ledger.
 fn run_counted<F: Files, I: Source, O: Sink, N: Sink, L: Ledger>(
-    alloc: Global,
-    request: Request<'_>,
+    task: Task<'_>,
     files: &mut F,
     input: &mut I,
     out: &mut O,
@@ -37,28 +44,33 @@ fn run_counted<F: Files, I: Source, O: Sink, N: Sink, L: Ledger>(
     blank: Blank,
 ) -> Status
     requires { (blank.name ≡ L.name) × (blank.parts ≡ L.parts) × (0 < L.parts) }
-    ensures answers { Answers (seen_request request.entry) (devices (F.told files.old) (I.told input.old) (O.told out.old)) (devices (F.told files.new) (I.told input.new) (O.told out.new)) result }
-    ensures notes { Notes (seen_request request.entry) (devices (F.told files.old) (I.told input.old) (O.told out.old)) (devices (F.told files.new) (I.told input.new) (O.told out.new)) (N.told notes.old) (N.told notes.new) result }
+    ensures answers { Answers (seen_request task.entry.request) (devices (F.told files.old) (I.told input.old) (O.told out.old)) (devices (F.told files.new) (I.told input.new) (O.told out.new)) result }
+    ensures notes { Notes (seen_request task.entry.request) (devices (F.told files.old) (I.told input.old) (O.told out.old)) (devices (F.told files.new) (I.told input.new) (O.told out.new)) (N.told notes.old) (N.told notes.new) result }
     ensures files { Keeps (F.told files.old) (F.told files.new) }
-    ensures unread { ReadsNoFile (seen_request request.entry) → F.told files.new ≡ F.told files.old }
-    ensures input { ReadsNoScript (seen_request request.entry) → I.told input.new ≡ I.told input.old }
+    ensures unread { ReadsNoFile (seen_request task.entry.request) → F.told files.new ≡ F.told files.old }
+    ensures input { ReadsNoScript (seen_request task.entry.request) → I.told input.new ≡ I.told input.old }
 {
     let mut steps = Steps::<L>::open(blank);
-    match request {
+    let alloc = task.alloc;
+    match task.request {
         Request::Obey { problem, exec } => obey(alloc, files, problem, exec, out),
         Request::Solve { problem } => solve(alloc, files, problem, out, &mut steps),
         Request::Ends {
             problem,
             first,
             second,
-        } => ends(alloc, files, problem, first, second, out, &mut steps),
+        } => {
+            let names = TwoNames { first, second };
+            ends(alloc, files, problem, &names, out, &mut steps)
+        }
         Request::Verify { problem, cert } => verify(alloc, files, problem, cert, out),
         Request::Session { decl } => session(alloc, files, decl, input, out, &mut steps),
         Request::Trial { number } => trial(alloc, number, out, &mut steps),
         Request::Widen { problem } => widen(alloc, files, problem, out, &mut steps),
         Request::Judge { problem, widening } => judge(alloc, files, problem, widening, out),
         Request::Mergecap { decl } => {
-            mergecap(alloc, files, decl, input, out, &mut steps, notes)
+            let file = DeclFile { alloc, path: decl };
+            mergecap(&file, files, input, out, &mut steps, notes)
         }
         Request::Help => finish(help(), Status::Done, out),
         Request::Version => finish(version(), Status::Done, out),
@@ -111,7 +123,9 @@ pub fn run<F: Files, I: Source, O: Sink, N: Sink>(
     ensures complete { let old = devices (F.told files.old) (I.told input.old) (O.told out.old) in let new = devices (F.told files.new) (I.told input.new) (O.told out.new) in
         IsLawfulInput (asked_of words.now) old.files.content old.input.left → IsFaultless old new → IsAnswered result }
 {
+    // It tells that a text of a problem has one answer.
     problem_answers_are_one();
     let request = request_of(words);
-    run_counted::<F, I, O, N, Brand>(alloc, request, files, input, out, notes, Blank::new(1))
+    let task = Task { alloc, request };
+    run_counted::<F, I, O, N, Brand>(task, files, input, out, notes, Blank::new(1))
 }

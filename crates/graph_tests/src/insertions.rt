@@ -17,7 +17,7 @@ use sync_graph::Graph;
 // Two nodes without arcs, both of value 0, and a queue with room for them.
 fn begin(g: &mut Graph, e: &mut Earliest, queue: &mut IdleQueue) -> Result<(), AllocError>
     requires graph { g.old ≡ no_graph }
-    requires values { e.old ≡ record { values = []; is_solved = true } }
+    requires values { e.old ≡ record { values = []; is_solved = true; workspace = [] } }
     requires room { queue.old ≡ 0 }
     ensures nodes { OnOk result (length g.new.nodes ≡ 2) }
     ensures solved { OnOk result (e.new.is_solved ≡ true) }
@@ -86,7 +86,7 @@ fn takes_one<L: Ledger>(
     steps: &mut Steps<L>,
 ) -> bool
     requires graph { g.old ≡ no_graph }
-    requires values { e.old ≡ record { values = []; is_solved = true } }
+    requires values { e.old ≡ record { values = []; is_solved = true; workspace = [] } }
     requires room { queue.old ≡ 0 }
 {
     if begin(g, e, queue).is_err() {

@@ -47,97 +47,111 @@ struct Growth<'a> {
     after: &'a [Pair],
 }
 
+// Kept nodes, and the pool that has their rows.
+#[derive(Drop)]
+struct Rows {
+    kept: Kept,
+    pool: RowPool,
+}
+
 // Keeps a node, or that of the source, and tells whether it has its rows.
 fn keep<L: Ledger>(
-    kept: &mut Kept,
+    rows: &mut Rows,
     g: &Graph,
     e: &Earliest,
     node: u32,
-    pool: &mut RowPool,
     queue: &mut IdleQueue,
     steps: &mut Steps<L>,
 ) -> bool
-    requires own { AreOwnRows kept.old pool.old }
-    requires rows { AreRowsOf g.now kept.old pool.old }
+    requires own { AreOwnRows rows.old.kept rows.old.pool }
+    requires rows { AreRowsOf g.now rows.old.kept rows.old.pool }
     requires solved { e.now.is_solved ≡ true }
     requires earliest { IsEarliestOf g.now e.now.values }
     requires room { length g.now.nodes ≤ queue.old }
-    ensures own { AreOwnRows kept.new pool.new }
-    ensures rows { AreRowsOf g.now kept.new pool.new }
+    ensures own { AreOwnRows rows.new.kept rows.new.pool }
+    ensures rows { AreRowsOf g.now rows.new.kept rows.new.pool }
     ensures room { queue.new ≡ queue.old }
 {
-    if !kept.present() || node >= g.nodes() || pool.free() < 2 || pool.width() < g.nodes() {
+    if !rows.kept.present()
+        || node >= g.nodes()
+        || rows.pool.free() < 2
+        || rows.pool.width() < g.nodes()
+    {
         return false;
     }
     let search = Some(Search::new(g, e, Side::From));
-    kept.keep(&search, node, pool, queue, steps).is_ok()
+    rows.kept
+        .keep(&search, node, &mut rows.pool, queue, steps)
+        .is_ok()
 }
 
 // The same for the node of the source.
 fn keep_source<L: Ledger>(
-    kept: &mut Kept,
+    rows: &mut Rows,
     g: &Graph,
     e: &Earliest,
-    pool: &mut RowPool,
     queue: &mut IdleQueue,
     steps: &mut Steps<L>,
 ) -> bool
-    requires none { kept.old.source ≡ None }
-    requires own { AreOwnRows kept.old pool.old }
-    requires rows { AreRowsOf g.now kept.old pool.old }
+    requires none { rows.old.kept.source ≡ None }
+    requires own { AreOwnRows rows.old.kept rows.old.pool }
+    requires rows { AreRowsOf g.now rows.old.kept rows.old.pool }
     requires solved { e.now.is_solved ≡ true }
     requires earliest { IsEarliestOf g.now e.now.values }
     requires room { length g.now.nodes ≤ queue.old }
-    ensures own { AreOwnRows kept.new pool.new }
-    ensures rows { AreRowsOf g.now kept.new pool.new }
+    ensures own { AreOwnRows rows.new.kept rows.new.pool }
+    ensures rows { AreRowsOf g.now rows.new.kept rows.new.pool }
     ensures room { queue.new ≡ queue.old }
 {
-    if !kept.present() || SOURCE >= g.nodes() || pool.free() < 2 || pool.width() < g.nodes() {
+    if !rows.kept.present()
+        || SOURCE >= g.nodes()
+        || rows.pool.free() < 2
+        || rows.pool.width() < g.nodes()
+    {
         return false;
     }
     let search = Some(Search::new(g, e, Side::From));
-    kept.keep_source(&search, SOURCE, pool, queue, steps);
+    rows.kept
+        .keep_source(&search, SOURCE, &mut rows.pool, queue, steps);
     true
 }
 
 // Keeps three nodes, and tells whether all have their rows.
 fn keep_three<L: Ledger>(
-    kept: &mut Kept,
+    rows: &mut Rows,
     g: &Graph,
     e: &Earliest,
-    pool: &mut RowPool,
     queue: &mut IdleQueue,
     steps: &mut Steps<L>,
 ) -> bool
-    requires kept { kept.old ≡ nothing_kept }
+    requires kept { rows.old.kept ≡ nothing_kept }
     requires solved { e.now.is_solved ≡ true }
     requires earliest { IsEarliestOf g.now e.now.values }
     requires room { length g.now.nodes ≤ queue.old }
-    ensures own { AreOwnRows kept.new pool.new }
-    ensures rows { AreRowsOf g.now kept.new pool.new }
+    ensures own { AreOwnRows rows.new.kept rows.new.pool }
+    ensures rows { AreRowsOf g.now rows.new.kept rows.new.pool }
     ensures room { queue.new ≡ queue.old }
 {
-    keep_source(kept, g, e, pool, queue, steps)
-        && keep(kept, g, e, 0, pool, queue, steps)
-        && keep(kept, g, e, 2, pool, queue, steps)
+    keep_source(rows, g, e, queue, steps)
+        && keep(rows, g, e, 0, queue, steps)
+        && keep(rows, g, e, 2, queue, steps)
 }
 
 // Brings an arc in, and repairs the rows.
 fn take<L: Ledger>(
-    kept: &mut Kept,
+    rows: &mut Rows,
     g: &mut Graph,
     e: &mut Earliest,
     link: &Link,
-    pool: &mut RowPool,
     queue: &mut IdleQueue,
     steps: &mut Steps<L>,
 ) -> bool
-    requires own { AreOwnRows kept.old pool.old }
-    requires rows { AreRowsOf g.old kept.old pool.old }
+    requires own { AreOwnRows rows.old.kept rows.old.pool }
+    requires rows { AreRowsOf g.old rows.old.kept rows.old.pool }
     requires solved { e.old.is_solved ≡ true }
     requires earliest { IsEarliestOf g.old e.old.values }
     requires room { length g.old.nodes ≤ queue.old }
-    ensures own { AreOwnRows kept.new pool.new }
+    ensures own { AreOwnRows rows.new.kept rows.new.pool }
     ensures nodes { result ≡ true → length g.new.nodes ≡ length g.old.nodes }
     ensures solved { result ≡ true → e.new.is_solved ≡ true }
     ensures earliest { result ≡ true → IsEarliestOf g.new e.new.values }
@@ -145,38 +159,39 @@ fn take<L: Ledger>(
 {
     rows_of_a_grown_graph();
     g.exact();
-    if pool.width() < g.nodes() {
+    if rows.pool.width() < g.nodes() {
         return false;
     }
     let Some(arc) = bring_in(g, e, link, queue, steps) else {
         return false;
     };
     let search = Search::new(g, e, Side::From);
-    kept.after_insert(&search, arc, pool, queue, steps);
+    rows.kept
+        .after_insert(&search, arc, &mut rows.pool, queue, steps);
     true
 }
 
 // Whether the slot of a node tells this of another one.
-fn tells(kept: &Kept, pool: &RowPool, node: u32, other: u32, want: &Pair) -> bool
-    requires own { AreOwnRows kept.now pool.now }
+fn tells(rows: &Rows, node: u32, other: u32, want: &Pair) -> bool
+    requires own { AreOwnRows rows.now.kept rows.now.pool }
 {
-    if !kept.present() || other >= pool.width() {
+    if !rows.kept.present() || other >= rows.pool.width() {
         return false;
     }
     let told = if node == SOURCE {
-        kept.look_source(pool, other)
+        rows.kept.look_source(&rows.pool, other)
     } else {
-        kept.look(pool, node, other)
+        rows.kept.look(&rows.pool, node, other)
     };
     told == Some(*want)
 }
 
 // Whether the slot of node 0 tells this of the nodes from 0 on.
-fn tells_all(kept: &Kept, pool: &RowPool, want: &[Pair]) -> bool
-    requires own { AreOwnRows kept.now pool.now }
+fn tells_all(rows: &Rows, want: &[Pair]) -> bool
+    requires own { AreOwnRows rows.now.kept rows.now.pool }
 {
     for (other, pair) in want.iter().enumerate() {
-        if other >= 6 || !tells(kept, pool, 0, other as u32, pair) {
+        if other >= 6 || !tells(rows, 0, other as u32, pair) {
             return false;
         }
     }
@@ -184,15 +199,15 @@ fn tells_all(kept: &Kept, pool: &RowPool, want: &[Pair]) -> bool
 }
 
 // Whether the slot of a node tells of each node what these rows tell.
-fn tells_rows(kept: &Kept, pool: &RowPool, node: u32, from: &[Cell; 6], to: &[Cell; 6]) -> bool
-    requires own { AreOwnRows kept.now pool.now }
+fn tells_rows(rows: &Rows, node: u32, from: &[Cell; 6], to: &[Cell; 6]) -> bool
+    requires own { AreOwnRows rows.now.kept rows.now.pool }
 {
     for other in 0..6 {
         let want = Pair {
             up: from[other].reach(),
             down: to[other].reach(),
         };
-        if !tells(kept, pool, node, other as u32, &want) {
+        if !tells(rows, node, other as u32, &want) {
             return false;
         }
     }
@@ -201,15 +216,14 @@ fn tells_rows(kept: &Kept, pool: &RowPool, node: u32, from: &[Cell; 6], to: &[Ce
 
 // Whether the slot of a node tells what rows made anew tell.
 fn is_as_new<L: Ledger>(
-    kept: &Kept,
+    rows: &Rows,
     g: &Graph,
     e: &Earliest,
     node: u32,
-    pool: &RowPool,
     queue: &mut IdleQueue,
     steps: &mut Steps<L>,
 ) -> bool
-    requires own { AreOwnRows kept.now pool.now }
+    requires own { AreOwnRows rows.now.kept rows.now.pool }
     requires solved { e.now.is_solved ≡ true }
     requires earliest { IsEarliestOf g.now e.now.values }
     requires room { length g.now.nodes ≤ queue.old }
@@ -223,48 +237,46 @@ fn is_as_new<L: Ledger>(
     make_row(&search, node, &mut from, queue, steps);
     let mut to = [Cell::unknown(); 6];
     make_row(&search.turned(), node, &mut to, queue, steps);
-    tells_rows(kept, pool, node, &from, &to)
+    tells_rows(rows, node, &from, &to)
 }
 
 // Whether all slots tell what rows made anew tell.
 fn all_as_new<L: Ledger>(
-    kept: &Kept,
+    rows: &Rows,
     g: &Graph,
     e: &Earliest,
-    pool: &RowPool,
     queue: &mut IdleQueue,
     steps: &mut Steps<L>,
 ) -> bool
-    requires own { AreOwnRows kept.now pool.now }
+    requires own { AreOwnRows rows.now.kept rows.now.pool }
     requires solved { e.now.is_solved ≡ true }
     requires earliest { IsEarliestOf g.now e.now.values }
     requires room { length g.now.nodes ≤ queue.old }
 {
-    is_as_new(kept, g, e, 0, pool, queue, steps)
-        && is_as_new(kept, g, e, SOURCE, pool, queue, steps)
-        && is_as_new(kept, g, e, 2, pool, queue, steps)
+    is_as_new(rows, g, e, 0, queue, steps)
+        && is_as_new(rows, g, e, SOURCE, queue, steps)
+        && is_as_new(rows, g, e, 2, queue, steps)
 }
 
 // Whether the rows of three nodes are right before an arc comes, and repaired when it has come.
 fn are_repaired<L: Ledger>(
-    kept: &mut Kept,
+    rows: &mut Rows,
     g: &mut Graph,
     e: &mut Earliest,
     growth: &Growth,
-    pool: &mut RowPool,
     queue: &mut IdleQueue,
     steps: &mut Steps<L>,
 ) -> bool
-    requires kept { kept.old ≡ nothing_kept }
+    requires kept { rows.old.kept ≡ nothing_kept }
     requires solved { e.old.is_solved ≡ true }
     requires earliest { IsEarliestOf g.old e.old.values }
     requires room { length g.old.nodes ≤ queue.old }
 {
-    keep_three(kept, g, e, pool, queue, steps)
-        && tells_all(kept, pool, growth.before)
-        && take(kept, g, e, &growth.arc, pool, queue, steps)
-        && tells_all(kept, pool, growth.after)
-        && all_as_new(kept, g, e, pool, queue, steps)
+    keep_three(rows, g, e, queue, steps)
+        && tells_all(rows, growth.before)
+        && take(rows, g, e, &growth.arc, queue, steps)
+        && tells_all(rows, growth.after)
+        && all_as_new(rows, g, e, queue, steps)
 }
 
 // The same over six rows, of three nodes.
@@ -280,9 +292,11 @@ fn in_a_pool<L: Ledger>(
     requires earliest { IsEarliestOf g.old e.old.values }
     requires room { length g.old.nodes ≤ queue.old }
 {
-    let mut pool = RowPool::new(alloc);
-    let mut kept = Kept::new(alloc);
-    pool.reserve(6, 6).is_ok() && are_repaired(&mut kept, g, e, growth, &mut pool, queue, steps)
+    let mut rows = Rows {
+        kept: Kept::new(alloc),
+        pool: RowPool::new(alloc),
+    };
+    rows.pool.reserve(6, 6).is_ok() && are_repaired(&mut rows, g, e, growth, queue, steps)
 }
 
 // Whether rows of the graph are repaired.

@@ -12,7 +12,7 @@ ghost use Rattle.merge_script.specs.Merged.{IsMergeOf, LacksMerge, MergesTo, Mer
 ghost use Rattle.merge_script.specs.Notes.{AreNoted, IsToldNote, notes_held};
 
 use crate::Unmerged;
-use crate::added_packets::gather;
+use crate::added_packets::{KeptPackets, gather};
 use crate::notes::tell_notes;
 use atto::Steps;
 use decl::Decl;
@@ -110,9 +110,12 @@ fn merge_lines<F: Files, I: Source, N: Sink, L: Ledger>(
     ensures no_fall { (I.told input.old).faults ≤ (I.told input.new).faults }
 {
     let mut reader = LineReader::new();
-    let mut kept = Vec::new(alloc);
+    let mut kept = KeptPackets {
+        packets: Vec::new(alloc),
+        bytes: 0,
+    };
     gather(session, &mut reader, files, input, &mut kept, steps)?;
-    merge_noted(alloc, session, kept, notes)
+    merge_noted(alloc, session, kept.packets, notes)
 }
 
 /// Merges the packets of all captures that the lines of a script add, one after another, in a session over this declaration

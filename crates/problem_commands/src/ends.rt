@@ -26,6 +26,15 @@ use solver::Solver;
 use std::alloc::Global;
 use std::sync::ledger::Ledger;
 
+/// The names of two events.
+#[derive(Clone, Copy, Debug)]
+pub struct TwoNames<'a> {
+    /// The name of the first event.
+    pub first: &'a str,
+    /// The name of the second event.
+    pub second: &'a str,
+}
+
 // The place of the event of a name.
 fn event_of(p: &Problem, name: &[u8]) -> Option<u32>
     ensures some { IfSome result (λ place. HasEvent p.now place name.now) }
@@ -51,12 +60,12 @@ fn answer<O: Sink>(pair: Pair, out: &mut O) -> Status
 }
 
 // The places of the events of two names.
-fn events_of(p: &Problem, first: &str, second: &str) -> Option<(u32, u32)>
-    ensures some { IfSome result (λ places. HasEvent p.now places.0 first.now × HasEvent p.now places.1 second.now) }
-    ensures none { IfNone result (IsUnknown p.now first.now ⊎ IsUnknown p.now second.now) }
+fn events_of(p: &Problem, names: &TwoNames) -> Option<(u32, u32)>
+    ensures some { IfSome result (λ places. HasEvent p.now places.0 names.now.first.now × HasEvent p.now places.1 names.now.second.now) }
+    ensures none { IfNone result (IsUnknown p.now names.now.first.now ⊎ IsUnknown p.now names.now.second.now) }
 {
-    let from = event_of(p, first.as_bytes())?;
-    let to = event_of(p, second.as_bytes())?;
+    let from = event_of(p, names.first.as_bytes())?;
+    let to = event_of(p, names.second.as_bytes())?;
     Some((from, to))
 }
 
@@ -76,6 +85,7 @@ fn interval<O: Sink, L: Ledger>(
     requires to { to < length p.now.events }
     ensures { Prints (TellsInterval p.now from to) (O.told out.old) (O.told out.new) result }
 {
+    // They tell that the problem is lawful, what the readings of the problem are, and what greatest differences are.
     let _ = p.events();
     let _ = p.readings();
     pairs();
@@ -140,35 +150,33 @@ fn solve_for<O: Sink, L: Ledger>(
 fn between<O: Sink, L: Ledger>(
     alloc: Global,
     p: &Problem,
-    first: &str,
-    second: &str,
+    names: &TwoNames,
     out: &mut O,
     steps: &mut Steps<L>,
 ) -> Status
-    ensures { Prints (TellsNamed p.now first.now second.now) (O.told out.old) (O.told out.new) result }
+    ensures { Prints (TellsNamed p.now names.now.first.now names.now.second.now) (O.told out.old) (O.told out.new) result }
 {
-    let Some((from, to)) = events_of(p, first, second) else {
+    let Some((from, to)) = events_of(p, names) else {
         return finish(b"unknown event\n", Status::UnknownEvent, out);
     };
     solve_for(alloc, p, from, to, out, steps)
 }
 
-/// The least and the greatest difference of the real times of two events of the problem in a file, over all
+/// The least and the greatest difference of the real times of the events of two names in the problem in a file, over all
 /// executions, and their order; or a contradiction where there is no execution.
 pub fn ends<F: Files, O: Sink, L: Ledger>(
     alloc: Global,
     files: &mut F,
     problem: &str,
-    first: &str,
-    second: &str,
+    names: &TwoNames,
     out: &mut O,
     steps: &mut Steps<L>,
 ) -> Status
-    ensures answered { Prints (IntervalAnswered problem.now first.now second.now (F.told files.old) (F.told files.new)) (O.told out.old) (O.told out.new) result }
+    ensures answered { Prints (IntervalAnswered problem.now names.now.first.now names.now.second.now (F.told files.old) (F.told files.new)) (O.told out.old) (O.told out.new) result }
     ensures keeps { Keeps (F.told files.old) (F.told files.new) }
 {
     match problem_in(alloc, files, problem) {
-        Ok(p) => between(alloc, &p, first, second, out, steps),
+        Ok(p) => between(alloc, &p, names, out, steps),
         Err(unread) => stop(unread, b"problem", Status::BadProblem, out),
     }
 }

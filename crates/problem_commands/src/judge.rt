@@ -22,6 +22,7 @@ fn judged_of(alloc: Global, p: &Problem, text: &[u8]) -> Result<Answer, Unread>
     ensures ok { IfOk result (λ answer. (w : Widening) × SpellsWidening p.now w text.now × IsJudgedAs p.now w answer) }
     ensures err { IfErr result (IsRefusedFor (RefusesWidening p.now) text.now) }
 {
+    // It tells what the readings of the problem are.
     let _readings = p.readings();
     match judge_text(alloc, p, text) {
         Ok(answer) => Ok(answer),
@@ -40,6 +41,7 @@ fn judged_in<F: Files>(
     ensures err { IfErr result (IsUnread (RefusesWidening p.now) path.now (F.told files.old) (F.told files.new)) }
     ensures keeps { Keeps (F.told files.old) (F.told files.new) }
 {
+    // It tells what the readings of the problem are.
     let _readings = p.readings();
     match text_in(alloc, files, path) {
         Ok(text) => judged_of(alloc, p, &text),

@@ -24,6 +24,7 @@ fn write_earliest<O: Sink>(p: &Problem, solver: &Solver, out: &mut O) -> Result<
     requires solved { solver.now.contradiction ≡ [] }
     ensures { (text : List ℕ) × IsEarliestText p.now text × Writes text (O.told out.old) (O.told out.new) result }
 {
+    // They tell what the readings of the problem are, and what the values of nodes are.
     let _ = p.readings();
     executions();
     write_run(p, solver.earliest(), out)

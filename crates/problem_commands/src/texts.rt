@@ -95,6 +95,7 @@ fn execution_of(alloc: Global, p: &Problem, text: &[u8]) -> Result<Execution, Un
     ensures ok { IfOk result (λ e. (x : Times) → Lists p.now x e → SpellsExecution p.now x text.now) }
     ensures err { IfErr result (IsRefusedFor (RefusesExecution p.now) text.now) }
 {
+    // It tells what the readings of the problem are.
     let _readings = p.readings();
     match read_execution(alloc, p, text) {
         Ok(e) => Ok(e),
@@ -107,6 +108,7 @@ fn answer_of(alloc: Global, p: &Problem, text: &[u8]) -> Result<Answer, Unread>
     ensures ok { IfOk result (λ answer. (c : Cert) × SpellsCert p.now c text.now × IsCheckOf p.now c answer) }
     ensures err { IfErr result (IsRefusedFor (RefusesCert p.now) text.now) }
 {
+    // It tells what the readings of the problem are.
     let _readings = p.readings();
     match check_text(alloc, p, text) {
         Ok(answer) => Ok(answer),
@@ -138,6 +140,7 @@ pub fn execution_in<F: Files>(
     ensures err { IfErr result (IsUnread (RefusesExecution p.now) path.now (F.told files.old) (F.told files.new)) }
     ensures keeps { Keeps (F.told files.old) (F.told files.new) }
 {
+    // It tells what the readings of the problem are.
     let _readings = p.readings();
     match text_in(alloc, files, path) {
         Ok(text) => execution_of(alloc, p, &text),
@@ -156,6 +159,7 @@ pub fn answer_in<F: Files>(
     ensures err { IfErr result (IsUnread (RefusesCert p.now) path.now (F.told files.old) (F.told files.new)) }
     ensures keeps { Keeps (F.told files.old) (F.told files.new) }
 {
+    // It tells what the readings of the problem are.
     let _readings = p.readings();
     match text_in(alloc, files, path) {
         Ok(text) => answer_of(alloc, p, &text),

@@ -1,5 +1,5 @@
 // Each call of a device fails in turn, in a session over two logs.
-use crate::runs::run_over;
+use crate::runs::{Script, run_over};
 use ports::{MemFiles, MemSink};
 use problem_commands::Status;
 use shared_fixtures::{TWO_LOGS_DECLARATION, added};
@@ -66,15 +66,11 @@ fn run_in(
     printed: &mut Vec<u8>,
 ) -> Result<Status, AllocError> {
     let mut out = MemSink::new(alloc, 900, 300, failing.writes)?;
-    let script = SCRIPT.as_bytes();
-    let status = run_over(
-        alloc,
-        &["session", "d"],
-        files,
-        script,
-        failing.reads,
-        &mut out,
-    )?;
+    let script = Script {
+        text: SCRIPT.as_bytes(),
+        fails: failing.reads,
+    };
+    let status = run_over(alloc, &["session", "d"], files, &script, &mut out)?;
     printed.extend_from_slice(out.bytes())?;
     Ok(status)
 }

@@ -1,5 +1,5 @@
 // A session over a log of some thousand rows.
-use crate::runs::{Wanted, answers};
+use crate::runs::{Script, Wanted, answers};
 use atto::{NsText, write_decimal};
 use ports::{MemFiles, MemSink};
 use problem_commands::Status;
@@ -36,8 +36,11 @@ fn put_log(alloc: Global, rows: u64, files: &mut MemFiles) -> Result<(), AllocEr
 // Whether a session over these files adds the log and tells how far its last event is behind its first one.
 fn adds_so(alloc: Global, wanted: &Wanted<'_>, files: &mut MemFiles) -> Result<bool, AllocError> {
     let mut out = MemSink::new(alloc, 900, 300, &[])?;
-    let script = b"add a a.csv\ninterval a#1 a#3000\n";
-    answers(alloc, wanted, files, script, &[], &mut out)
+    let script = Script {
+        text: b"add a a.csv\ninterval a#1 a#3000\n",
+        fails: &[],
+    };
+    answers(alloc, wanted, files, &script, &mut out)
 }
 
 // The same over a declaration of one host, and a log of 3,000 events.

@@ -1,5 +1,5 @@
 // Captures that are merged into one, and why some are not.
-use crate::runs::run_noted;
+use crate::runs::{Script, run_noted};
 use ports::{MemFiles, MemSink};
 use problem_commands::Status;
 use shared_fixtures::TWO_CAPTURES_DECLARATION;
@@ -136,22 +136,13 @@ fn push_merged(bytes: &mut Vec<u8>) -> Result<(), AllocError> {
 fn ends_noted(
     alloc: Global,
     files: &mut MemFiles,
-    script: &str,
-    fails: &[u32],
+    script: &Script<'_>,
     status: Status,
     printed: &[u8],
     notes: &mut MemSink,
 ) -> Result<bool, AllocError> {
     let mut out = MemSink::new(alloc, 600, 7, &[])?;
-    let found = run_noted(
-        alloc,
-        &["mergecap", "decl"],
-        files,
-        script.as_bytes(),
-        fails,
-        &mut out,
-        notes,
-    )?;
+    let found = run_noted(alloc, &["mergecap", "decl"], files, script, &mut out, notes)?;
     Ok(found.code() == status.code() && out.bytes() == printed)
 }
 
@@ -159,13 +150,12 @@ fn ends_noted(
 fn ends_so(
     alloc: Global,
     files: &mut MemFiles,
-    script: &str,
-    fails: &[u32],
+    script: &Script<'_>,
     status: Status,
     printed: &[u8],
 ) -> Result<bool, AllocError> {
     let mut notes = MemSink::new(alloc, 100, 7, &[])?;
-    let is_so = ends_noted(alloc, files, script, fails, status, printed, &mut notes)?;
+    let is_so = ends_noted(alloc, files, script, status, printed, &mut notes)?;
     Ok(is_so && notes.bytes().is_empty())
 }
 
@@ -174,7 +164,11 @@ fn merges(alloc: Global, decl: &str, script: &str) -> Result<bool, AllocError> {
     let mut files = files_of(alloc, decl, &LAWFUL)?;
     let mut merged = Vec::new(alloc);
     push_merged(&mut merged)?;
-    ends_so(alloc, &mut files, script, &[], Status::Done, &merged)
+    let script = Script {
+        text: script.as_bytes(),
+        fails: &[],
+    };
+    ends_so(alloc, &mut files, &script, Status::Done, &merged)
 }
 
 // Whether a header alone is printed over this declaration by this script.
@@ -182,7 +176,11 @@ fn merges_none(alloc: Global, decl: &str, script: &str) -> Result<bool, AllocErr
     let mut files = files_of(alloc, decl, &LAWFUL)?;
     let mut merged = Vec::new(alloc);
     push_header(1, &mut merged)?;
-    ends_so(alloc, &mut files, script, &[], Status::Done, &merged)
+    let script = Script {
+        text: script.as_bytes(),
+        fails: &[],
+    };
+    ends_so(alloc, &mut files, &script, Status::Done, &merged)
 }
 
 #[test]
@@ -256,7 +254,11 @@ fn merges_noted(alloc: Global, script: &str, notes: &mut MemSink) -> Result<bool
     let mut files = files_to_note(alloc)?;
     let mut merged = Vec::new(alloc);
     push_merged(&mut merged)?;
-    ends_noted(alloc, &mut files, script, &[], Status::Done, &merged, notes)
+    let script = Script {
+        text: script.as_bytes(),
+        fails: &[],
+    };
+    ends_noted(alloc, &mut files, &script, Status::Done, &merged, notes)
 }
 
 // Whether they are, and these are the notes where their writes with these numbers fail.
@@ -390,11 +392,14 @@ const UNMERGED: [Case; 11] = [
 // Whether a merge ends as its case says.
 fn is_refused(alloc: Global, case: &Case) -> Result<bool, AllocError> {
     let mut files = files_of(alloc, case.decl, &case.captures)?;
+    let script = Script {
+        text: case.script.as_bytes(),
+        fails: case.fails,
+    };
     ends_so(
         alloc,
         &mut files,
-        case.script,
-        case.fails,
+        &script,
         case.status,
         case.printed.as_bytes(),
     )

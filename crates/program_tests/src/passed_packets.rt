@@ -1,5 +1,5 @@
 // A session of the program over a capture with packets that are passed over.
-use crate::runs::{Wanted, answers};
+use crate::runs::{Script, Wanted, answers};
 use ports::{MemFiles, MemSink};
 use problem_commands::Status;
 use shared_fixtures::replies;
@@ -49,8 +49,11 @@ fn tells(alloc: Global) -> Result<bool, AllocError> {
         status: Status::Done,
         printed: PRINTED,
     };
-    let script = b"add a a.pcapng\nreport\n";
-    answers(alloc, &wanted, &mut files, script, &[], &mut out)
+    let script = Script {
+        text: b"add a a.pcapng\nreport\n",
+        fails: &[],
+    };
+    answers(alloc, &wanted, &mut files, &script, &mut out)
 }
 
 #[test]

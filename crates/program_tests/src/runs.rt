@@ -12,6 +12,19 @@ pub(crate) struct Wanted<'a> {
     pub(crate) printed: &'a str,
 }
 
+// The lines of a script, and the numbers of the reads of it that fail.
+#[derive(Clone, Copy)]
+pub(crate) struct Script<'a> {
+    pub(crate) text: &'a [u8],
+    pub(crate) fails: &'a [u32],
+}
+
+// No line.
+pub(crate) const NO_SCRIPT: Script<'static> = Script {
+    text: b"",
+    fails: &[],
+};
+
 // How a run with these words ends.
 fn status_of(
     alloc: Global,
@@ -28,17 +41,16 @@ fn status_of(
     Ok(run(alloc, &all, files, input, out, notes))
 }
 
-// How a run ends over this script, which comes in pieces of 14 bytes. Reads of it with these numbers fail.
+// How a run ends over this script, which comes in pieces of 14 bytes.
 pub(crate) fn run_noted(
     alloc: Global,
     words: &[&str],
     files: &mut MemFiles,
-    script: &[u8],
-    fails: &[u32],
+    script: &Script<'_>,
     out: &mut MemSink,
     notes: &mut MemSink,
 ) -> Result<Status, AllocError> {
-    let mut input = MemSource::new(alloc, script, 14, fails)?;
+    let mut input = MemSource::new(alloc, script.text, 14, script.fails)?;
     status_of(alloc, words, files, &mut input, out, notes)
 }
 
@@ -47,12 +59,11 @@ pub(crate) fn run_over(
     alloc: Global,
     words: &[&str],
     files: &mut MemFiles,
-    script: &[u8],
-    fails: &[u32],
+    script: &Script<'_>,
     out: &mut MemSink,
 ) -> Result<Status, AllocError> {
     let mut notes = MemSink::new(alloc, 0, 1, &[])?;
-    run_noted(alloc, words, files, script, fails, out, &mut notes)
+    run_noted(alloc, words, files, script, out, &mut notes)
 }
 
 // Whether a run over this script comes to what is wanted.
@@ -60,11 +71,10 @@ pub(crate) fn answers(
     alloc: Global,
     wanted: &Wanted<'_>,
     files: &mut MemFiles,
-    script: &[u8],
-    fails: &[u32],
+    script: &Script<'_>,
     out: &mut MemSink,
 ) -> Result<bool, AllocError> {
-    let found = run_over(alloc, wanted.words, files, script, fails, out)?;
+    let found = run_over(alloc, wanted.words, files, script, out)?;
     Ok(found.code() == wanted.status.code() && out.bytes() == wanted.printed.as_bytes())
 }
 
@@ -76,5 +86,5 @@ pub(crate) fn prints(
     fails: &[u32],
 ) -> Result<bool, AllocError> {
     let mut out = MemSink::new(alloc, 600, 7, fails)?;
-    answers(alloc, wanted, files, b"", &[], &mut out)
+    answers(alloc, wanted, files, &NO_SCRIPT, &mut out)
 }

@@ -1,5 +1,5 @@
 use crate::fixtures::USAGE;
-use crate::runs::{Wanted, answers, prints, run_over};
+use crate::runs::{Script, Wanted, answers, prints, run_over};
 use ports::{MemFiles, MemSink};
 use problem_commands::Status;
 use shared_fixtures::{TWO_CLOCKS_DECLARATION, TWO_LOGS_DECLARATION, replies};
@@ -73,9 +73,12 @@ fn answers_so(alloc: Global, case: &Case, files: &mut MemFiles) -> Result<bool, 
         status: case.status,
         printed: case.printed,
     };
-    let script = case.script.as_bytes();
+    let script = Script {
+        text: case.script.as_bytes(),
+        fails: case.read_fails,
+    };
     let mut out = MemSink::new(alloc, 900, 300, case.write_fails)?;
-    answers(alloc, &wanted, files, script, case.read_fails, &mut out)
+    answers(alloc, &wanted, files, &script, &mut out)
 }
 
 // Whether a run ends as the case says.
@@ -352,7 +355,11 @@ fn put_lines(alloc: Global, size: usize, files: &mut MemFiles) -> Result<(), All
 // Whether a run over these files and a script of one line comes to what is wanted.
 fn shows_so(alloc: Global, wanted: &Wanted<'_>, files: &mut MemFiles) -> Result<bool, AllocError> {
     let mut out = MemSink::new(alloc, 900, 300, &[])?;
-    answers(alloc, wanted, files, b"problem\n", &[], &mut out)
+    let script = Script {
+        text: b"problem\n",
+        fails: &[],
+    };
+    answers(alloc, wanted, files, &script, &mut out)
 }
 
 // The same over a declaration of so many bytes.
@@ -487,7 +494,11 @@ fn run_session(
     out: &mut MemSink,
 ) -> Result<(), AllocError> {
     let mut files = files_of(alloc, proof.decl, proof.log, &[])?;
-    run_over(alloc, &["session", "d"], &mut files, script, &[], out)?;
+    let script = Script {
+        text: script,
+        fails: &[],
+    };
+    run_over(alloc, &["session", "d"], &mut files, &script, out)?;
     Ok(())
 }
 

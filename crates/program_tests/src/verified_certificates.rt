@@ -1,5 +1,5 @@
 // Certificates that are checked: lawful ones, and what is answered of each change.
-use crate::runs::{Wanted, prints, run_over};
+use crate::runs::{NO_SCRIPT, Wanted, prints, run_over};
 use crate::verify_cases::{
     ACCEPTED, CHANGED_INTERVALS, CHANGED_RUNS_AND_CYCLES, CHANGED_UNBOUNDED, ILL_FORMED, REFUSED,
 };
@@ -71,7 +71,7 @@ pub(crate) fn solve_into(
 ) -> Result<(), AllocError> {
     let mut files = MemFiles::new(alloc, &[])?;
     files.put("p", problem.as_bytes())?;
-    run_over(alloc, &["solve", "p"], &mut files, b"", &[], out)?;
+    run_over(alloc, &["solve", "p"], &mut files, &NO_SCRIPT, out)?;
     Ok(())
 }
 

@@ -1,5 +1,5 @@
 // The least widening of a problem is printed, and judged.
-use crate::runs::{Wanted, answers, prints, run_over};
+use crate::runs::{NO_SCRIPT, Wanted, answers, prints, run_over};
 use ports::{MemFiles, MemSink};
 use problem_commands::Status;
 use shared_fixtures::{CONTRADICTING_PROBLEM, HOPELESS_PROBLEM, TWO_LOGS_PROBLEM};
@@ -52,7 +52,7 @@ fn judged_so(
 fn widen_into(alloc: Global, problem: &str, out: &mut MemSink) -> Result<(), AllocError> {
     let mut files = MemFiles::new(alloc, &[])?;
     files.put("p", problem.as_bytes())?;
-    run_over(alloc, &["widen", "p"], &mut files, b"", &[], out)?;
+    run_over(alloc, &["widen", "p"], &mut files, &NO_SCRIPT, out)?;
     Ok(())
 }
 
@@ -92,7 +92,7 @@ fn ends_so(
         printed,
     };
     let mut out = MemSink::new(alloc, 1000, 7, &[])?;
-    answers(alloc, &wanted, &mut files, b"", &[], &mut out)
+    answers(alloc, &wanted, &mut files, &NO_SCRIPT, &mut out)
 }
 
 #[test]

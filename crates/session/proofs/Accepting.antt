@@ -30,7 +30,7 @@ use Rattle.replies.specs.declared.refusal.Refusal.TheVariants.{TooManyEvents}
 use Rattle.replies.specs.Refusals.{refusal_line}
 use Rattle.replies.specs.Reply.{State, IsAdded, added_line, count_by, messages_by, aside_of, AreKept}
 use Rattle.session.specs.Stands.{Held, Under, IsHeldInSession, IsKeptUp, StandsFor, held_parts, under_of, problem_held, seen_held, solver_of, aside_in, IsStreamOf}
-use Rattle.session_answers.specs.Ready.{KeepsSource, AreAnswersOf}
+use Rattle.session_answers.specs.Ready.{KeepsSource, AreAnswersOf, declared}
 use Rattle.session.specs.Inside.{AcceptAnswered, HasPlace, IsStreamWithin, IsAddedTo, IsGrownAt, IsGrownTrace, grown_under}
 use Rattle.session_answers.specs.Keeping.{BringsEvents}
 use Rattle.session_answers.proofs.RosterEvents.{came_count}
@@ -165,7 +165,7 @@ accept_added held held' k events size stream p changed IsWritten inside room sam
 
 -- ---- the same by what the code holds
 -- the roster of answers that stand ready has the events that are held
-pub count_is : (accepted : List Accepted) (kept : List EventId) (ready : Bool) (a : Answers) (held : Held) → held_parts a.graph.roster.declaration accepted kept (solver_of ready a) ≡ held → IsSome held.answers →
+pub count_is : (accepted : List Accepted) (kept : List EventId) (ready : Bool) (a : Answers) (held : Held) → held_parts (declared a) accepted kept (solver_of ready a) ≡ held → IsSome held.answers →
     (ready ≡ true → AreAnswersOf (seen_in accepted) kept a) → (n : ℕ) → n ≡ length a.graph.roster.came → n ≡ event_count (seen_held held.under)
 count_is accepted kept ready a held same some are n n_is =
     let all : AreAnswersOf (seen_in accepted) kept a = are (ready_of held ready a (ap (λ (h : Held). h.answers) same) some) in
@@ -262,10 +262,10 @@ module _ (accepted new : List Accepted) (k : ℕ) (events : List Seen) (size : �
 -- all that is known of what a session holds
 abbrev pub IsWhole : List Accepted → List EventId → Bool → Answers → Type 0
 IsWhole accepted kept ready a =
-    IsHeldInSession (held_parts a.graph.roster.declaration accepted kept (solver_of ready a)) × AreKept (seen_in accepted) kept × (ready ≡ true → AreAnswersOf (seen_in accepted) kept a)
+    IsHeldInSession (held_parts (declared a) accepted kept (solver_of ready a)) × AreKept (seen_in accepted) kept × (ready ≡ true → AreAnswersOf (seen_in accepted) kept a)
 
 -- answers of all events are of what is held
-kept_up : (accepted : List Accepted) (kept : List EventId) (answers : Option SolverLists) (a : Answers) → AreAnswersOf (seen_in accepted) kept a → IsKeptUp (held_parts a.graph.roster.declaration accepted kept answers) a.graph.solver
+kept_up : (accepted : List Accepted) (kept : List EventId) (answers : Option SolverLists) (a : Answers) → AreAnswersOf (seen_in accepted) kept a → IsKeptUp (held_parts (declared a) accepted kept answers) a.graph.solver
 kept_up accepted kept answers a are =
     let r = a.graph.roster in
     let s = a.graph.solver in
@@ -283,8 +283,8 @@ kept_up accepted kept answers a are =
     }
 
 -- what stands ready is of all that is held
-pub held_ready : (accepted : List Accepted) (kept : List EventId) (ready : Bool) (a : Answers) → IsWithinLimits (held_parts a.graph.roster.declaration accepted kept (solver_of ready a)) →
-    (ready ≡ true → AreAnswersOf (seen_in accepted) kept a) → IsHeldInSession (held_parts a.graph.roster.declaration accepted kept (solver_of ready a))
+pub held_ready : (accepted : List Accepted) (kept : List EventId) (ready : Bool) (a : Answers) → IsWithinLimits (held_parts (declared a) accepted kept (solver_of ready a)) →
+    (ready ≡ true → AreAnswersOf (seen_in accepted) kept a) → IsHeldInSession (held_parts (declared a) accepted kept (solver_of ready a))
 held_ready accepted kept true a limits are =
     held_by limits (kept_up accepted kept (solver_of true a) a (are refl))
 held_ready accepted kept false a limits are = held_by limits tt
@@ -292,33 +292,33 @@ held_ready accepted kept false a limits are = held_by limits tt
 pub never_ready : (ready : Bool) (P : Type 0) → ready ≡ false → ready ≡ true → P
 never_ready ready P is not = let both : false ≡ true = sym is ∙ not in absurd cc
 
-pub whole_same : (d : Declaration) (accepted new then : List Accepted) (kept : List EventId) (before : Option SolverLists) (ready : Bool) (a : Answers) → a.graph.roster.declaration ≡ d → then ≡ new →
+pub whole_same : (d : Declaration) (accepted new then : List Accepted) (kept : List EventId) (before : Option SolverLists) (ready : Bool) (a : Answers) → declared a ≡ d → then ≡ new →
     map under_of new ≡ map under_of accepted → IsWithinLimits (held_parts d accepted kept before) → AreKept (seen_in accepted) kept → ready ≡ false → IsWhole then kept ready a
-whole_same d accepted new then kept before ready a declared is stays held lawful none =
+whole_same d accepted new then kept before ready a declares is stays held lawful none =
     let seen : seen_in then ≡ seen_in accepted = ap seen_in is ∙ sym (seen_accepted new) ∙ ap seen_held stays ∙ seen_accepted accepted in
     let never = never_ready ready (AreAnswersOf (seen_in then) kept a) none in (
-      held_ready then kept ready a (held_same (held_parts d accepted kept before) (held_parts a.graph.roster.declaration then kept (solver_of ready a)) held declared (ap (map under_of) is ∙ stays)) never,
+      held_ready then kept ready a (held_same (held_parts d accepted kept before) (held_parts (declared a) then kept (solver_of ready a)) held declares (ap (map under_of) is ∙ stays)) never,
       subst (λ (x : List (List Seen)). AreKept x kept) (sym seen) lawful,
       never,
     )
 
 pub whole_grown : (d : Declaration) (accepted new then : List Accepted) (kept : List EventId) (before : Option SolverLists) (ready : Bool) (a : Answers) (held : Held) (k : ℕ) (events : List Seen) (size : ℕ) (stream : Stream) →
-    Extended d accepted new kept before held k events size stream → a.graph.roster.declaration ≡ d → then ≡ new → IsWithinLimits (held_parts d accepted kept before) → AreKept (seen_in accepted) kept →
+    Extended d accepted new kept before held k events size stream → declared a ≡ d → then ≡ new → IsWithinLimits (held_parts d accepted kept before) → AreKept (seen_in accepted) kept →
     (ready ≡ true → AreAnswersOf (seen_in then) kept a) → IsWhole then kept ready a
-whole_grown d accepted new then kept before ready a held k events size stream e declared is was lawful answers =
+whole_grown d accepted new then kept before ready a held k events size stream e declares is was lawful answers =
     let more : IsWithinLimits (held_parts d new kept (solver_of ready a)) = held_extended d accepted new kept before held k events size stream e (solver_of ready a) was in
-    let limits : IsWithinLimits (held_parts a.graph.roster.declaration then kept (solver_of ready a)) =
-    subst (λ (x : Declaration). IsWithinLimits (held_parts x then kept (solver_of ready a))) (sym declared) (subst (λ (l : List Accepted). IsWithinLimits (held_parts d l kept (solver_of ready a))) (sym is) more) in (
+    let limits : IsWithinLimits (held_parts (declared a) then kept (solver_of ready a)) =
+    subst (λ (x : Declaration). IsWithinLimits (held_parts x then kept (solver_of ready a))) (sym declares) (subst (λ (l : List Accepted). IsWithinLimits (held_parts d l kept (solver_of ready a))) (sym is) more) in (
       held_ready then kept ready a limits answers,
       subst (λ (l : List Accepted). AreKept (seen_in l) kept) (sym is) (kept_then accepted new k events size stream e.grew kept lawful),
       answers,
     )
 
 -- and where other events are kept, or the solver changed
-pub whole_kept : (d : Declaration) (accepted : List Accepted) (kept kept' : List EventId) (before : Option SolverLists) (ready : Bool) (a : Answers) → a.graph.roster.declaration ≡ d →
+pub whole_kept : (d : Declaration) (accepted : List Accepted) (kept kept' : List EventId) (before : Option SolverLists) (ready : Bool) (a : Answers) → declared a ≡ d →
     IsWithinLimits (held_parts d accepted kept before) → AreKept (seen_in accepted) kept' → (ready ≡ true → AreAnswersOf (seen_in accepted) kept' a) → IsWhole accepted kept' ready a
-whole_kept d accepted kept kept' before ready a declared held lawful answers = (
-  held_ready accepted kept' ready a (held_same (held_parts d accepted kept before) (held_parts a.graph.roster.declaration accepted kept' (solver_of ready a)) held declared refl) answers,
+whole_kept d accepted kept kept' before ready a declares held lawful answers = (
+  held_ready accepted kept' ready a (held_same (held_parts d accepted kept before) (held_parts (declared a) accepted kept' (solver_of ready a)) held declares refl) answers,
   lawful,
   answers,
 )

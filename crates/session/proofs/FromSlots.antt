@@ -9,12 +9,12 @@ use Rattle.replies.specs.Commands.{Question, IsReadOff}
 use Rattle.replies.proofs.Commands.{read_off}
 use Rattle.replies.proofs.Elements.{there_some}
 use Rattle.session_answers.specs.declared.answers.Answers.{Answers}
-use Rattle.session_answers.specs.Ready.{HasNodeOf, AreAnswersOf}
+use Rattle.session_answers.specs.Ready.{HasNodeOf, AreAnswersOf, declared}
 use Rattle.session_answers.specs.Keeping.{HasSlotBy}
 use Rattle.session_answers.proofs.Slotting.{slot_found}
 use Rattle.session.specs.Stands.{Held, KeepsEvent}
 
-module _ (seen : List (List Seen)) (kept : List EventId) (a : Answers) (are : AreAnswersOf seen kept a) (h : Held) (declared : h.declaration ≡ a.graph.roster.declaration) (same : h.kept ≡ kept) where
+module _ (seen : List (List Seen)) (kept : List EventId) (a : Answers) (are : AreAnswersOf seen kept a) (h : Held) (declares : h.declaration ≡ declared a) (same : h.kept ≡ kept) where
   slot_by : (name : List ℕ) → KeepsEvent h name → HasSlotBy a.graph.roster a.graph.solver name
   slot_by name (k, event, at, is) =
       let here' : slice_get kept k ≡ Some event = ap (λ (xs : List EventId). slice_get xs k) (sym same) ∙ at in
@@ -22,7 +22,7 @@ module _ (seen : List (List Seen)) (kept : List EventId) (a : Answers) (are : Ar
       let each : length a.graph.solver.kept.slots ≡ length kept = are.slots.each in
       let slot = there_some a.graph.solver.kept.slots k (omega (arith, inside, each)) in
       let known : HasNodeOf a.graph.roster event slot.0.node = are.slots.nodes k event slot.0 here' slot.1 in
-      let named : name_of a.graph.roster.declaration event ≡ name = ap (λ (x : Declaration). name_of x event) (sym declared) ∙ is in
+      let named : name_of (declared a) event ≡ name = ap (λ (x : Declaration). name_of x event) (sym declares) ∙ is in
       (event, slot.0.node, record { known = known; named = named }, slot_found a.graph.solver.kept.slots k slot.0 slot.1)
 
   -- what is read off rows of kept events is read off those of slots

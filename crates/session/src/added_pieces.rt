@@ -16,7 +16,7 @@ use crate::accepted::{aside_in, extend, has_place, room_left};
 use crate::addition::outcome_of;
 use crate::labels::host_of;
 use crate::limits::MOST_PIECE;
-use crate::pieces::{Piece, read_piece};
+use crate::pieces::{Origin, Piece, read_piece};
 use atto::Steps;
 use captures::Packet;
 use ports::{FileFault, Files, read_file};
@@ -26,12 +26,21 @@ use std::alloc::AllocError;
 use std::sync::ledger::Ledger;
 use traces::{Event, Stream};
 
+/// The packets that the bytes of an addition complete, where they are to be kept.
+#[derive(Drop)]
+pub(crate) struct Completed {
+    /// Whether they are to be kept.
+    pub(crate) keeps: bool,
+    /// Those that are kept, in their order.
+    pub(crate) packets: Vec<Packet>,
+}
+
 // Lets packets go that are not to be kept.
-fn keep_only(keeps: bool, packets: &mut Vec<Packet>)
-    ensures { keeps ≡ true → packets.new.items ≡ packets.old.items }
+fn keep_only(completed: &mut Completed)
+    ensures { completed.old.keeps ≡ true → completed.new.packets.items ≡ completed.old.packets.items }
 {
-    if !keeps {
-        packets.clear();
+    if !completed.keeps {
+        completed.packets.clear();
     }
 }
 
@@ -52,36 +61,38 @@ impl Session {
     {
         match decl_of(&self.answers).label_at(label) {
             Some(k) => {
-                let mut packets = Vec::new(self.alloc);
-                self.add_under(k, path, files, false, &mut packets, steps)
+                let mut completed = Completed {
+                    keeps: false,
+                    packets: Vec::new(self.alloc),
+                };
+                self.add_under(k, path, files, &mut completed, steps)
             }
             None => Ok(Outcome::Refused(Refusal::UnknownLabel)),
         }
     }
 
-    /// Adds the file at a path to the label at a place. Where the packets that a capture's bytes complete are to be kept, they
-    /// are appended to `packets`, which has none yet.
+    /// Adds the file at a path to the label at a place. `completed`, which has no packets yet, gets those that a capture's bytes
+    /// complete, where they are to be kept.
     pub(crate) fn add_under<F: Files, L: Ledger>(
         &mut self,
         k: usize,
         path: &str,
         files: &mut F,
-        keeps: bool,
-        packets: &mut Vec<Packet>,
+        completed: &mut Completed,
         steps: &mut Steps<L>,
     ) -> Result<Outcome, AllocError>
         requires inside { k < length self.old.declaration.labels }
         requires ready { IsReady self.old }
-        requires none { packets.old.items ≡ [] }
+        requires none { completed.old.packets.items ≡ [] }
         ensures answers { IfOk result (λ outcome. UnderAnswered k path.now (F.told files.old) (F.told files.new) self.old self.new
-            (KeepsFound keeps self.old k (seen_packets packets.new.items) outcome) (IsOutcomeLine outcome)) }
-        ensures room { keeps ≡ true → IfOk result (HadRoom self.old (length packets.new.items)) }
+            (KeepsFound completed.old.keeps self.old k (seen_packets completed.new.packets.items) outcome) (IsOutcomeLine outcome)) }
+        ensures room { completed.old.keeps ≡ true → IfOk result (HadRoom self.old (length completed.new.packets.items)) }
         ensures keeps { Keeps (F.told files.old) (F.told files.new) }
         ensures ready { OnOk result (IsReady self.new) }
         ensures addition { AddsSo self.old self.new steps.old steps.new }
     {
         match read_file(self.alloc, files, path, MOST_PIECE) {
-            Ok(file) => self.add_piece(k, &file.bytes, file.more, keeps, packets, steps),
+            Ok(file) => self.add_piece(k, &file.bytes, file.more, completed, steps),
             Err(FileFault::Absent) => Ok(Outcome::Refused(Refusal::UnreadFile)),
             Err(FileFault::Read) => Ok(Outcome::Refused(Refusal::UnreadFile)),
             Err(FileFault::Memory) => Err(AllocError),
@@ -94,16 +105,15 @@ impl Session {
         k: usize,
         front: &[u8],
         more: bool,
-        keeps: bool,
-        packets: &mut Vec<Packet>,
+        completed: &mut Completed,
         steps: &mut Steps<L>,
     ) -> Result<Outcome, AllocError>
         requires inside { k < length self.old.declaration.labels }
         requires ready { IsReady self.old }
-        requires none { packets.old.items ≡ [] }
+        requires none { completed.old.packets.items ≡ [] }
         ensures answers { IfOk result (λ outcome. FrontAnswered more front.now self.old self.new k (IsOutcomeLine outcome)) }
-        ensures packets { keeps ≡ true → IfOk result (CompletesFront more front.now self.old k (seen_packets packets.new.items)) }
-        ensures room { keeps ≡ true → IfOk result (HadRoom self.old (length packets.new.items)) }
+        ensures packets { completed.old.keeps ≡ true → IfOk result (CompletesFront more front.now self.old k (seen_packets completed.new.packets.items)) }
+        ensures room { completed.old.keeps ≡ true → IfOk result (HadRoom self.old (length completed.new.packets.items)) }
         ensures ready { OnOk result (IsReady self.new) }
         ensures addition { AddsSo self.old self.new steps.old steps.new }
     {
@@ -118,8 +128,16 @@ impl Session {
         }
         let decl = decl_of(&self.answers);
         let host = host_of(&decl.labels, k);
-        let read = read_piece(self.alloc, decl, host, &under.stream, front, room, packets)?;
-        keep_only(keeps, packets);
+        let origin = Origin { decl, host };
+        let read = read_piece(
+            self.alloc,
+            &origin,
+            &under.stream,
+            front,
+            room,
+            &mut completed.packets,
+        )?;
+        keep_only(completed);
         match read {
             Piece::Read { events, stream } => self.accept(
                 k,

@@ -9,7 +9,7 @@ ghost use Rattle.queries.specs.declared.stop.Stop.TheVariants as stops;
 ghost use Rattle.replies.specs.Commands as commands;
 ghost use Rattle.replies.specs.Commands.{TakesMemory, IsReadOff, question_seen};
 ghost use Rattle.replies.specs.Reply.{IsAnswerTo};
-ghost use Rattle.session_answers.specs.Ready.{AreAnswersOf};
+ghost use Rattle.session_answers.specs.Ready.{AreAnswersOf, declared};
 ghost use Rattle.session_answers.specs.Keeping.{HasSlotBy};
 
 use crate::lines::written;
@@ -19,7 +19,7 @@ use ports::Sink;
 use problem_text::write_roster;
 use queries::Stop;
 use replies::{Question, write_merge};
-use session_answers::{Answers, ask_comparison, ask_proof, ask_time};
+use session_answers::{Answers, TwoNames, ask_comparison, ask_proof, ask_time};
 use std::alloc::Global;
 use std::sync::ledger::Ledger;
 use traces::Accepted;
@@ -33,10 +33,10 @@ pub(crate) fn answer<O: Sink, L: Ledger>(
     out: &mut O,
     steps: &mut Steps<L>,
 ) -> Result<(), Stop>
-    requires labels { length accepted.now ≡ length answers.old.graph.roster.declaration.labels }
+    requires labels { length accepted.now ≡ length (declared answers.old).labels }
     requires few { event_count (seen_in accepted.now) ≤ most_events }
     requires ready { (kept : List EventId) × AreAnswersOf (seen_in accepted.now) kept answers.old }
-    ensures writes { WritesSuch (IsAnswerTo (question_seen question.entry) answers.old.graph.roster.declaration (seen_in accepted.now) (passed_in accepted.now))
+    ensures writes { WritesSuch (IsAnswerTo (question_seen question.entry) (declared answers.old) (seen_in accepted.now) (passed_in accepted.now))
         stops.WriteFault (O.told out.old) (O.told out.new) result }
     ensures roster { answers.new.graph.roster ≡ answers.old.graph.roster }
     ensures ready { (kept : List EventId) → AreAnswersOf (seen_in accepted.now) kept answers.old → AreAnswersOf (seen_in accepted.now) kept answers.new }
@@ -52,15 +52,17 @@ pub(crate) fn answer<O: Sink, L: Ledger>(
             asked,
             first,
             second,
-        } => { written(ask_comparison(names, solver, asked, first, second, out, steps)) }
+        } => {
+            let events = TwoNames { first, second };
+            written(ask_comparison(names, solver, asked, &events, out, steps))
+        }
         Question::Time { event } => { written(ask_time(names, solver, answers.source, event, out)) }
         Question::Merge => write_merge(alloc, names.decl(), accepted, names, solver, out),
         Question::Prove { first, second } => {
-            written(ask_proof(names, solver, first, second, out, steps))
+            let events = TwoNames { first, second };
+            written(ask_proof(names, solver, &events, out, steps))
         }
         Question::Problem => written(write_roster(names, out)),
-        Question::Report => {
-            write_report(alloc, names.decl(), accepted, names, matcher, solver, out)
-        }
+        Question::Report => write_report(alloc, accepted, names, matcher, solver, out),
     }
 }

@@ -10,6 +10,7 @@ ghost use Rattle.session.specs.Taking.{AsksToAdd, Takes};
 ghost use Rattle.session.specs.TakingInside.{TakesFile, TakesUnder};
 
 use crate::Session;
+use crate::added_pieces::Completed;
 use atto::Steps;
 use captures::{Packet, captures_are_one};
 use mergecap::Stored;
@@ -122,12 +123,15 @@ impl Session {
         // It tells that bytes stand for one capture.
         captures_are_one();
         let before = self.accepted[k].events.len() as u32;
-        let mut packets = Vec::new(self.alloc);
-        let outcome = self.add_under(k, path, files, true, &mut packets, steps)?;
+        let mut completed = Completed {
+            keeps: true,
+            packets: Vec::new(self.alloc),
+        };
+        let outcome = self.add_under(k, path, files, &mut completed, steps)?;
         match outcome {
             Outcome::Refused(refusal) => Ok(AddAnswer::Refused(refused_text(refusal))),
             _ => {
-                store(kept, k as u32, before, packets)?;
+                store(kept, k as u32, before, completed.packets)?;
                 Ok(AddAnswer::Accepted)
             }
         }

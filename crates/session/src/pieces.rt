@@ -14,6 +14,15 @@ use replies::{Refusal, capture_refusal, log_refusal};
 use std::alloc::{AllocError, Global};
 use traces::{Event, Stream, packet_events, row_events};
 
+/// Where packets were captured: a host, and the declaration that it is in.
+#[derive(Clone, Copy)]
+pub(crate) struct Origin<'a> {
+    /// The declaration.
+    pub(crate) decl: &'a Decl,
+    /// The number of the host.
+    pub(crate) host: u32,
+}
+
 /// What a piece says.
 #[derive(Drop)]
 pub enum Piece {
@@ -30,29 +39,28 @@ pub enum Piece {
     Refused(Refusal),
 }
 
-/// Reads a piece for a label of this host, under which this is kept, where there is room for so many events more. It is read to
-/// its end, and no more rows or packets are held than there is room for. `packets`, which has none yet, gets those that a
-/// capture's piece completes.
+/// Reads a piece for a label of the host of this origin, under which this is kept, where there is room for so many events more.
+/// It is read to its end, and no more rows or packets are held than there is room for. `packets`, which has none yet, gets those
+/// that a capture's piece completes.
 pub(crate) fn read_piece(
     alloc: Global,
-    decl: &Decl,
-    host: u32,
+    origin: &Origin,
     stream: &Stream,
     piece: &[u8],
     room: u64,
     packets: &mut Vec<Packet>,
 ) -> Result<Piece, AllocError>
-    requires payload { decl.now.payload_bytes ≤ 64 }
+    requires payload { origin.now.decl.now.payload_bytes ≤ 64 }
     requires short { length piece.now ≤ most_piece }
     requires place { HasPlaceFor stream.now (length piece.now) }
     requires none { packets.old.items ≡ [] }
-    ensures read { IfOk result (λ read. IsRead (declaration_of decl.now) host room stream.now piece.now read) }
+    ensures read { IfOk result (λ read. IsRead (declaration_of origin.now.decl.now) origin.now.host room stream.now piece.now read) }
     ensures room { IfOk result (λ read. HasRoomFor room read) }
     ensures packets { IfOk result (λ read. HasPackets stream.now piece.now (seen_packets packets.new.items) read) }
 {
     match stream {
         Stream::Log => read_log(alloc, piece, room),
-        Stream::Capture(stream) => read_capture(alloc, decl, host, stream, piece, room, packets),
+        Stream::Capture(stream) => read_capture(alloc, origin, stream, piece, room, packets),
     }
 }
 
@@ -81,16 +89,15 @@ fn read_log(alloc: Global, piece: &[u8], room: u64) -> Result<Piece, AllocError>
 // Reads the next piece of a capture.
 fn read_capture(
     alloc: Global,
-    decl: &Decl,
-    host: u32,
+    origin: &Origin,
     stream: &CaptureStream,
     piece: &[u8],
     room: u64,
     packets: &mut Vec<Packet>,
 ) -> Result<Piece, AllocError>
-    requires payload { decl.now.payload_bytes ≤ 64 }
+    requires payload { origin.now.decl.now.payload_bytes ≤ 64 }
     requires place { taken stream.now + length piece.now ≤ most_of_label }
-    ensures read { IfOk result (λ read. IsRead (declaration_of decl.now) host room (streams.Capture stream.now) piece.now read) }
+    ensures read { IfOk result (λ read. IsRead (declaration_of origin.now.decl.now) origin.now.host room (streams.Capture stream.now) piece.now read) }
     ensures room { IfOk result (λ read. HasRoomFor room read) }
     ensures packets { IfOk result (λ read. HasPackets (streams.Capture stream.now) piece.now (seen_packets packets.new.items) read) }
 {
@@ -100,7 +107,7 @@ fn read_capture(
             if completed.more {
                 return Ok(Piece::TooManyEvents);
             }
-            let events = packet_events(alloc, decl, host, &completed.kept)?;
+            let events = packet_events(alloc, origin.decl, origin.host, &completed.kept)?;
             *packets = completed.kept;
             let stream = Stream::Capture(next);
             Ok(Piece::Read { events, stream })

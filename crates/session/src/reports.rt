@@ -2,7 +2,6 @@
 ghost use Rattle.std.specs.Prelude.{◌≡◌, ◌≤◌, length, map, IsErrOf};
 ghost use Rattle.problem_model.specs.Limits.{most_events};
 ghost use Rattle.ports.specs.Content.{WritesSuch};
-ghost use Rattle.decl.specs.Declaration.{IsDeclaration, declaration_of};
 ghost use Rattle.traces.specs.Traces.{event_count};
 ghost use Rattle.traces.specs.Held.{passed_in, seen_in};
 ghost use Rattle.traces.specs.Messages.{problem_of_seen};
@@ -14,7 +13,6 @@ ghost use Rattle.queries.specs.declared.stop.Stop.TheVariants as stops;
 ghost use Rattle.replies.specs.Reply.{IsReport};
 
 use crate::lines::write_line;
-use decl::Decl;
 use msg_match::Matcher;
 use ports::Sink;
 use queries::{Stop, is_consistent};
@@ -24,27 +22,25 @@ use solver::Solver;
 use std::alloc::Global;
 use traces::Accepted;
 
-/// Writes the report on all events, of which the roster has the names by number and the matcher the ends of messages, and the solver
-/// holds the answer; and on the packets that were passed over.
+/// Writes the report on all events, of which the roster has the declaration and the names by number, and the matcher the ends of
+/// messages, and the solver holds the answer; and on the packets that were passed over.
 pub(crate) fn write_report<O: Sink>(
     alloc: Global,
-    decl: &Decl,
     accepted: &[Accepted],
     roster: &Roster,
     matcher: &Matcher,
     solver: &Solver,
     out: &mut O,
 ) -> Result<(), Stop>
-    requires declared { IsDeclaration (declaration_of decl.now) }
-    requires labels { length accepted.now ≡ length decl.now.labels.items }
+    requires labels { length accepted.now ≡ length roster.now.declaration.labels }
     requires few { event_count (seen_in accepted.now) ≤ most_events }
     requires ends { AreEndsBy (map id_of roster.now.came) matcher.now (seen_in accepted.now) }
-    requires solution { (l : Listed) × IsSolutionBy l (problem_of_seen (declaration_of decl.now) (seen_in accepted.now)) solver.now }
-    ensures writes { WritesSuch (IsReport (declaration_of decl.now) (seen_in accepted.now) (passed_in accepted.now)) stops.WriteFault (O.told out.old) (O.told out.new) result }
+    requires solution { (l : Listed) × IsSolutionBy l (problem_of_seen roster.now.declaration (seen_in accepted.now)) solver.now }
+    ensures writes { WritesSuch (IsReport roster.now.declaration (seen_in accepted.now) (passed_in accepted.now)) stops.WriteFault (O.told out.old) (O.told out.new) result }
     ensures untouched { IsErrOf result stops.Memory → O.told out.new ≡ O.told out.old }
 {
     let consistent = is_consistent(solver);
-    let view = view_of(alloc, decl, accepted, roster, matcher, consistent)?;
+    let view = view_of(alloc, roster.decl(), accepted, roster, matcher, consistent)?;
     let line = report_line(alloc, &view)?;
     write_line(&line, out)
 }

@@ -20,7 +20,6 @@ use std::sync::ledger::Ledger;
 fn answer_line<F: Files, I: Source, O: Sink, L: Ledger>(
     session: &mut Session,
     reader: &mut LineReader,
-    line: &mut LineText,
     files: &mut F,
     input: &mut I,
     out: &mut O,
@@ -39,7 +38,8 @@ fn answer_line<F: Files, I: Source, O: Sink, L: Ledger>(
     ensures keeps { Keeps (F.told files.old) (F.told files.new) }
     ensures no_fall { ((I.told input.old).faults ≤ (I.told input.new).faults) × ((O.told out.old).faults ≤ (O.told out.new).faults) }
 {
-    match reader.next_line(input, line) {
+    let mut line = LineText::new();
+    match reader.next_line(input, &mut line) {
         Ok(Line::Text) => Ok(session.step(line.as_slice(), files, out, steps)?),
         Ok(Line::TooLong) => Ok(session.too_long(out)?),
         Ok(Line::End) => Err(Ended::Done),
@@ -64,9 +64,8 @@ fn answer_lines<F: Files, I: Source, O: Sink, L: Ledger>(
     ensures keeps { Keeps (F.told files.old) (F.told files.new) }
     ensures no_fall { ((I.told input.old).faults ≤ (I.told input.new).faults) × ((O.told out.old).faults ≤ (O.told out.new).faults) }
 {
-    let mut line = LineText::new();
     loop {
-        if let Err(ended) = answer_line(session, reader, &mut line, files, input, out, steps) {
+        if let Err(ended) = answer_line(session, reader, files, input, out, steps) {
             return ended;
         }
     }

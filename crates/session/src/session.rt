@@ -44,13 +44,13 @@ impl Model for Session {
     ghost use Rattle.traces.specs.Held.{seen_in};
     ghost use Rattle.session.specs.Stands.{Held, IsHeldInSession, held_parts, solver_of};
     ghost use Rattle.replies.specs.Reply.{AreKept};
-    ghost use Rattle.session_answers.specs.Ready.{AreAnswersOf};
+    ghost use Rattle.session_answers.specs.Ready.{AreAnswersOf, declared};
 
     ghost Value = { Held };
 
-    ghost view = { λ s. held_parts s.answers.graph.roster.declaration s.accepted.items s.kept.items (solver_of s.ready s.answers) };
+    ghost view = { λ s. held_parts (declared s.answers) s.accepted.items s.kept.items (solver_of s.ready s.answers) };
 
-    ghost invariant = { λ s. IsHeldInSession (held_parts s.answers.graph.roster.declaration s.accepted.items s.kept.items (solver_of s.ready s.answers))
+    ghost invariant = { λ s. IsHeldInSession (held_parts (declared s.answers) s.accepted.items s.kept.items (solver_of s.ready s.answers))
         × AreKept (seen_in s.accepted.items) s.kept.items
         × (s.ready ≡ true → AreAnswersOf (seen_in s.accepted.items) s.kept.items s.answers) };
 }

@@ -12,7 +12,7 @@ use std::test::Fail;
 // Whether this is written of an execution of no nodes.
 fn run_into(p: &Problem, e: &Earliest, out: &mut MemSink, printed: &[u8]) -> bool
     requires problem { p.now ≡ empty_problem }
-    requires values { e.now ≡ record { values = []; is_solved = true } }
+    requires values { e.now ≡ record { values = []; is_solved = true; workspace = [] } }
 {
     let _failed = write_run(p, e, out);
     out.bytes() == printed
@@ -27,7 +27,7 @@ fn run_over(
     printed: &[u8],
 ) -> Result<bool, AllocError>
     requires problem { p.now ≡ empty_problem }
-    requires values { e.now ≡ record { values = []; is_solved = true } }
+    requires values { e.now ≡ record { values = []; is_solved = true; workspace = [] } }
 {
     let mut out = MemSink::new(alloc, 60, 5, fails)?;
     Ok(run_into(p, e, &mut out, printed))

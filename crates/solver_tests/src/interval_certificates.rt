@@ -5,7 +5,7 @@ ghost use Rattle.row_pool.specs.Pool.{free_rows};
 ghost use Rattle.solver.specs.Solution.{IsSolution};
 
 use crate::fixtures::{ALONE_PROBLEM, is_solved, solve_alone};
-use attain::write_ends;
+use attain::{NodeRows, write_ends};
 use atto::Steps;
 use ports::MemSink;
 use problem::{Problem, read_problem};
@@ -107,16 +107,8 @@ fn write_by(p: &Problem, s: &Solver, from: &[Cell], to: &[Cell], case: &Case, ou
     let _ = p.events();
     let _ = p.readings();
     executions();
-    let _failed = write_ends(
-        p,
-        s.graph(),
-        s.earliest(),
-        from,
-        to,
-        case.first,
-        case.second,
-        out,
-    );
+    let rows = NodeRows::new(s.graph(), s.earliest(), case.first, from, to);
+    let _failed = write_ends(p, &rows, case.second, out);
 }
 
 // Writes the certificate of a case, by rows that are lent for it, with their steps counted by this ledger.

@@ -14,8 +14,8 @@ invariant-loop-why g l =
     let old : Devices = reads (g.F.Files.told l.fn.files) (g.I.Source.told l.fn.input) in
     let now : Devices = reads (g.F.Files.told l.files) (g.I.Source.told l.input) in
     record {
-      at : IsSoFar l.fn.session.declaration old now l.reader l.session (all_timed l.kept.items);
-      total : (l.total ≡ bytes_in (all_timed l.kept.items)) × (l.total ≤ most_bytes);
+      at : IsSoFar l.fn.session.declaration old now l.reader l.session (all_timed l.kept.packets.items);
+      bytes : (l.kept.bytes ≡ bytes_in (all_timed l.kept.packets.items)) × (l.kept.bytes ≤ most_bytes);
       going : l.reader.over ≡ false;
       ready : IsReady l.session;
       keeps : Keeps old.files now.files;

@@ -39,8 +39,8 @@ returns-in_err-add_line-in-Ok-Text-clause-err g c =
     } in
     let why : Unmerged = c.in_err-add_line-in-Ok-Text.field-0.0 in
     let is : IfErr c.from_residual.result (λ (e : Unmerged). e ≡ why) = search rules in
-    err_is c.from_residual.result why (EndsRunSo c.args.session.now c.args.reader.now c.next_line.new.self old new (all_timed c.args.kept.now.items)) is
-    (ends_turn c.args.session.now c.args.reader.now c.next_line.new.self old new (all_timed c.args.kept.now.items) why off c.requires.some c.in_err-add_line-in-Ok-Text.ensures.err)
+    err_is c.from_residual.result why (EndsRunSo c.args.session.now c.args.reader.now c.next_line.new.self old new (all_timed c.args.kept.now.packets.items)) is
+    (ends_turn c.args.session.now c.args.reader.now c.next_line.new.self old new (all_timed c.args.kept.now.packets.items) why off c.requires.some c.in_err-add_line-in-Ok-Text.ensures.err)
 
 pub returns-in-Ok-TooLong-clause-err : goal.returns-in-Ok-TooLong-clause-err
 returns-in-Ok-TooLong-clause-err g c =

@@ -14,4 +14,4 @@ returns-clause-noted g c =
     let before = g.N.Sink.told c.args.notes.now in
     let after = g.N.Sink.told c.merge_noted.new.notes in
     on_ok c.merge_noted.result (IsToldNote (notes_held h.declaration.labels h.under) before after) (AreNoted d old new before after)
-    (noted_all d old new h (all_timed c.gather.new.kept.items) before after c.in_ok-gather.ensures.ok) c.merge_noted.ensures.noted
+    (noted_all d old new h (all_timed c.gather.new.kept.packets.items) before after c.in_ok-gather.ensures.ok) c.merge_noted.ensures.noted

@@ -14,7 +14,7 @@ keep_source-requires-clause-node g c =
 pub write_time-requires-clause-solution : goal.write_time-requires-clause-solution
 write_time-requires-clause-solution g c =
     let p = c.args.p.now in
-    (p, goes_on (listing_of p) p c.args.solver.now c.keep_source.new.self c.keep_source.ensures.answer c.keep_source.ensures.current c.requires.solution)
+    (p, goes_on (listing_of p) p c.args.solver.now c.keep_source.new.self c.keep_source.ensures.leaves.answer c.keep_source.ensures.leaves.current c.requires.solution)
 
 pub write_time-requires-clause-source : goal.write_time-requires-clause-source
 write_time-requires-clause-source g c =

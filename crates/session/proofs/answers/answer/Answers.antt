@@ -7,9 +7,9 @@ use Rattle.roster.specs.Roster.{listed}
 use Rattle.solver.specs.Solution.{IsSolutionBy}
 use Rattle.traces.specs.Held.{passed_in, seen_in}
 use Rattle.traces.specs.Messages.{problem_of_seen}
-use Rattle.replies.specs.Commands.{Compare, Time, Merge, Prove, Problem, Report}
+use Rattle.replies.specs.Commands.{Compare, Time, Merge, Prove, Problem}
 use Rattle.replies.specs.Reply.{IsAnswerTo}
-use Rattle.session_answers.specs.Ready.{answers_problem}
+use Rattle.session_answers.specs.Ready.{answers_problem, declared}
 use Rattle.session_answers.proofs.AskedRows.{answers_left}
 use Rattle.session_answers.proofs.Engines.{spare_free, told}
 use Rattle.session.proofs.Replying.{source_keeps}
@@ -26,7 +26,7 @@ returns-in-Compare-clause-writes g c =
     let a = c.args.answers.now in
     let seen = seen_in c.args.accepted.now in
     let t = c.ask_comparison.ensures.writes (answers_problem a seen) c.requires.ready.1.graph.solution in
-    rw c.in-Compare.is (such_of (IsAnswerTo (Compare c.in-Compare.asked c.in-Compare.first.now c.in-Compare.second.now) a.graph.roster.declaration seen (passed_in c.args.accepted.now)) t.1 (c.written.ensures.writes t.0 _ _ t.2))
+    rw c.in-Compare.is (such_of (IsAnswerTo (Compare c.in-Compare.asked c.in-Compare.first.now c.in-Compare.second.now) (declared a) seen (passed_in c.args.accepted.now)) t.1 (c.written.ensures.writes t.0 _ _ t.2))
 
 pub returns-in-Compare-clause-ready : goal.returns-in-Compare-clause-ready
 returns-in-Compare-clause-ready g c = λ kept are. answers_left (seen_in c.args.accepted.now) kept c.args.answers.now _ are c.ask_comparison.ensures.leaves
@@ -42,7 +42,7 @@ returns-in-Prove-clause-writes g c =
     let a = c.args.answers.now in
     let seen = seen_in c.args.accepted.now in
     let t = c.ask_proof.ensures.writes (answers_problem a seen) c.requires.ready.1.graph.solution in
-    rw c.in-Prove.is (such_of (IsAnswerTo (Prove c.in-Prove.first.now c.in-Prove.second.now) a.graph.roster.declaration seen (passed_in c.args.accepted.now)) t.1 (c.written-in-Prove.ensures.writes t.0 _ _ t.2))
+    rw c.in-Prove.is (such_of (IsAnswerTo (Prove c.in-Prove.first.now c.in-Prove.second.now) (declared a) seen (passed_in c.args.accepted.now)) t.1 (c.written-in-Prove.ensures.writes t.0 _ _ t.2))
 
 pub returns-in-Prove-clause-ready : goal.returns-in-Prove-clause-ready
 returns-in-Prove-clause-ready g c = λ kept are. answers_left (seen_in c.args.accepted.now) kept c.args.answers.now _ are c.ask_proof.ensures.leaves
@@ -50,12 +50,12 @@ returns-in-Prove-clause-ready g c = λ kept are. answers_left (seen_in c.args.ac
 pub ask_time-requires : goal.ask_time-requires
 ask_time-requires g c =
     let are = c.requires.ready.1 in
-    (answers_problem c.args.answers.now (seen_in c.args.accepted.now), are.graph.solution, (c.args.answers.now.graph.roster.declaration.source, are.source_slot))
+    (answers_problem c.args.answers.now (seen_in c.args.accepted.now), are.graph.solution, ((declared c.args.answers.now).source, are.source_slot))
 
 pub returns-in-Time-clause-writes : goal.returns-in-Time-clause-writes
 returns-in-Time-clause-writes g c =
     let a = c.args.answers.now in
-    let d = a.graph.roster.declaration in
+    let d = declared a in
     let seen = seen_in c.args.accepted.now in
     let are = c.requires.ready.1 in
     let t = c.ask_time.ensures (answers_problem a seen) d.source are.graph.solution (source_keeps d c.args.accepted.now are.lawful.declared) are.source_slot in
@@ -77,24 +77,14 @@ returns-in-Merge-clause-writes g c =
     rw c.in-Merge.is (subst (λ (d : Declaration). WritesSuch (IsAnswerTo Merge d (seen_in c.args.accepted.now) (passed_in c.args.accepted.now)) stops.WriteFault (g.O.Sink.told c.args.out.now) (g.O.Sink.told c.write_merge.new.out)
     c.write_merge.result) c.decl.ensures.same c.write_merge.ensures.writes)
 
-pub write_report-requires-clause-declared : goal.write_report-requires-clause-declared
-write_report-requires-clause-declared g c = subst IsDeclaration (sym c.decl-in-Report.ensures.same) c.requires.ready.1.lawful.declared
-
-pub write_report-requires-clause-labels : goal.write_report-requires-clause-labels
-write_report-requires-clause-labels g c = c.requires.labels ∙ ap (λ (d : Declaration). length d.labels) (sym c.decl-in-Report.ensures.same)
-
 pub write_report-requires-clause-ends : goal.write_report-requires-clause-ends
 write_report-requires-clause-ends g c = c.requires.ready.1.ends
 
 pub write_report-requires-clause-solution : goal.write_report-requires-clause-solution
-write_report-requires-clause-solution g c =
-    let a = c.args.answers.now in
-    (listed a.graph.roster, subst (λ (d : Declaration). IsSolutionBy (listed a.graph.roster) (problem_of_seen d (seen_in c.args.accepted.now)) a.graph.solver) (sym c.decl-in-Report.ensures.same) c.requires.ready.1.graph.solution)
+write_report-requires-clause-solution g c = (listed c.args.answers.now.graph.roster, c.requires.ready.1.graph.solution)
 
 pub returns-in-Report-clause-writes : goal.returns-in-Report-clause-writes
-returns-in-Report-clause-writes g c =
-    rw c.in-Report.is (subst (λ (d : Declaration). WritesSuch (IsAnswerTo Report d (seen_in c.args.accepted.now) (passed_in c.args.accepted.now)) stops.WriteFault (g.O.Sink.told c.args.out.now) (g.O.Sink.told c.write_report.new.out)
-    c.write_report.result) c.decl-in-Report.ensures.same c.write_report.ensures.writes)
+returns-in-Report-clause-writes g c = rw c.in-Report.is c.write_report.ensures.writes
 
 pub write_roster-requires : goal.write_roster-requires
 write_roster-requires g c =
@@ -107,5 +97,5 @@ returns-in-Problem-clause-writes g c =
     let a = c.args.answers.now in
     let seen = seen_in c.args.accepted.now in
     let graph = c.requires.ready.1.graph in
-    rw c.in-Problem.is (such_of (IsAnswerTo Problem a.graph.roster.declaration seen (passed_in c.args.accepted.now)) refl
+    rw c.in-Problem.is (such_of (IsAnswerTo Problem (declared a) seen (passed_in c.args.accepted.now)) refl
     (c.written-in-Problem.ensures.writes _ _ _ (c.write_roster.ensures seen graph.holds (told seen a.graph.roster a.graph.solver graph))))

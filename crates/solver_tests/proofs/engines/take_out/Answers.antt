@@ -3,11 +3,11 @@ use Rattle.std.proofs.lemmas.List.Elements.{All-nil, All-cons}
 use Rattle.sync_graph.specs.Graph.{GraphLists}
 use Rattle.solver_tests.proofs.engines.take_out.Goals as goal
 
-pub withdraw-requires-clause-in_force : goal.withdraw-requires-clause-in_force
-withdraw-requires-clause-in_force g c =
+pub withdraw-requires-clause-numbers : goal.withdraw-requires-clause-numbers
+withdraw-requires-clause-numbers g c =
     let P : ℕ → Type 0 = λ k. get_or c.args.s.now.graph.in_force k false ≡ true in
     let arcs : c.arcs.result ≡ length c.args.s.now.graph.arcs = c.arcs.ensures ∙ ap (λ (h : GraphLists). length h.arcs) c.graph.ensures in
-    All-cons P c.args.number [] (c.requires.flags c.args.number false (omega (arith, c.requires.current.set_up.graph.flags, arcs, c.if-number-arcs.false))) (All-nil P)
-
-pub withdraw-requires-clause-differ : goal.withdraw-requires-clause-differ
-withdraw-requires-clause-differ g c = λ i j d less below. absurd (let b : j < suc 0 = below in let l : i < j = less in omega arith)
+    record {
+      each = All-cons P c.args.number [] (c.requires.flags c.args.number false (omega (arith, c.requires.current.set_up.graph.flags, arcs, c.if-number-arcs.false))) (All-nil P);
+      differ = λ i j d less below. absurd (let b : j < suc 0 = below in let l : i < j = less in omega arith);
+    }

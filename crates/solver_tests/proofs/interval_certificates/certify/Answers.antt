@@ -14,12 +14,12 @@ lend-lent-requires-clause-node g c =
 
 pub write_by-requires-clause-solution : goal.write_by-requires-clause-solution
 write_by-requires-clause-solution g c = record {
-  current = c.lend-lent.ensures.current;
-  stands = λ readings are. subst (StandsForListed (listing_of c.args.p.now) c.args.p.now readings) (sym c.lend-lent.ensures.answer.graph) (c.requires.solution.stands readings are);
+  current = c.lend-lent.ensures.leaves.current;
+  stands = λ readings are. subst (StandsForListed (listing_of c.args.p.now) c.args.p.now readings) (sym c.lend-lent.ensures.leaves.answer.graph) (c.requires.solution.stands readings are);
 }
 
 pub write_by-requires-clause-solved : goal.write_by-requires-clause-solved
-write_by-requires-clause-solved g c = c.lend-lent.ensures.answer.contradiction ∙ c.requires.solved
+write_by-requires-clause-solved g c = c.lend-lent.ensures.leaves.answer.contradiction ∙ c.requires.solved
 
 pub write_by-requires-clause-rows : goal.write_by-requires-clause-rows
 write_by-requires-clause-rows g c = record {

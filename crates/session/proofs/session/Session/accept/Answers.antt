@@ -12,7 +12,7 @@ use Rattle.msg_match.specs.Ends.{IsChange}
 use Rattle.queries.specs.Consistent.{IsConsistent}
 use Rattle.replies.specs.Outcomes.{IsOutcomeLine, outcome_line}
 use Rattle.session.specs.Stands.{Held, held_parts, problem_held, solver_of, under_of}
-use Rattle.session_answers.specs.Ready.{AreAnswersOf}
+use Rattle.session_answers.specs.Ready.{AreAnswersOf, declared}
 use Rattle.session_answers.specs.Keeping.{BringsEvents}
 use Rattle.session.specs.Inside.{AcceptAnswered, HasPlace}
 use Rattle.session.proofs.AddedThere.{where_weaker}
@@ -29,21 +29,21 @@ extend-requires-clause-place g c =
 
 pub renew-requires-clause-inside : goal.renew-requires-clause-inside
 renew-requires-clause-inside g c =
-    let h = has_extended c.self.inside.answers.graph.roster.declaration c.self.inside.accepted c.deref_mut.result.now c.extend.new.accepted c.self.inside.kept.items (solver_of c.self.inside.ready c.self.inside.answers)
+    let h = has_extended (declared c.self.inside.answers) c.self.inside.accepted c.deref_mut.result.now c.extend.new.accepted c.self.inside.kept.items (solver_of c.self.inside.ready c.self.inside.answers)
     c.args.self.now c.args.k c.len-more.result c.args.events.items c.args.size c.args.stream c.self.view_is c.requires.inside c.requires.place c.requires.within (search rules) c.requires.room
     c.deref_mut.ensures.value c.in_ok-extend.ensures.grown c.in_ok-extend.ensures.len (limits c.self.invariant.0) in
     subst (λ (l : List Accepted). c.args.k < length l) (sym c.deref.ensures.value) h.inside
 
 pub renew-requires-clause-few : goal.renew-requires-clause-few
 renew-requires-clause-few g c =
-    let h = has_extended c.self.inside.answers.graph.roster.declaration c.self.inside.accepted c.deref_mut.result.now c.extend.new.accepted c.self.inside.kept.items (solver_of c.self.inside.ready c.self.inside.answers)
+    let h = has_extended (declared c.self.inside.answers) c.self.inside.accepted c.deref_mut.result.now c.extend.new.accepted c.self.inside.kept.items (solver_of c.self.inside.ready c.self.inside.answers)
     c.args.self.now c.args.k c.len-more.result c.args.events.items c.args.size c.args.stream c.self.view_is c.requires.inside c.requires.place c.requires.within (search rules) c.requires.room
     c.deref_mut.ensures.value c.in_ok-extend.ensures.grown c.in_ok-extend.ensures.len (limits c.self.invariant.0) in
     subst (λ (l : List Accepted). event_count (seen_in l) ≤ most_events) (sym c.deref.ensures.value) h.few
 
 pub renew-requires-clause-brings : goal.renew-requires-clause-brings
 renew-requires-clause-brings g c =
-    let h = has_extended c.self.inside.answers.graph.roster.declaration c.self.inside.accepted c.deref_mut.result.now c.extend.new.accepted c.self.inside.kept.items (solver_of c.self.inside.ready c.self.inside.answers)
+    let h = has_extended (declared c.self.inside.answers) c.self.inside.accepted c.deref_mut.result.now c.extend.new.accepted c.self.inside.kept.items (solver_of c.self.inside.ready c.self.inside.answers)
     c.args.self.now c.args.k c.len-more.result c.args.events.items c.args.size c.args.stream c.self.view_is c.requires.inside c.requires.place c.requires.within (search rules) c.requires.room
     c.deref_mut.ensures.value c.in_ok-extend.ensures.grown c.in_ok-extend.ensures.len (limits c.self.invariant.0) in
     let ready : c.self.inside.ready ≡ true = ready_of c.args.self.now c.self.inside.ready c.self.inside.answers (ap (λ (h : Held). h.answers) c.self.view_is) c.requires.ready in
@@ -53,7 +53,7 @@ renew-requires-clause-brings g c =
 
 pub invariant_of-self : goal.invariant_of-self
 invariant_of-self g c =
-    let d = c.self.inside.answers.graph.roster.declaration in
+    let d = declared c.self.inside.answers in
     let kept = c.self.inside.kept.items in
     let long : length c.extend.new.accepted ≡ c.self.inside.accepted.len = c.in_err-extend.ensures.len ∙ ap length c.deref_mut.ensures.value ∙ sym c.self.inside.accepted.ok.0 in
     let back : (with_items c.self.inside.accepted c.extend.new.accepted).items ≡ c.extend.new.accepted = with_items_is c.self.inside.accepted c.extend.new.accepted long in
@@ -63,7 +63,7 @@ invariant_of-self g c =
 
 pub invariant_of-self-in_err-renewed : goal.invariant_of-self-in_err-renewed
 invariant_of-self-in_err-renewed g c =
-    let d = c.self.inside.answers.graph.roster.declaration in
+    let d = declared c.self.inside.answers in
     let before = solver_of c.self.inside.ready c.self.inside.answers in
     let h = has_extended d c.self.inside.accepted c.deref_mut.result.now c.extend.new.accepted c.self.inside.kept.items before
     c.args.self.now c.args.k c.len-more.result c.args.events.items c.args.size c.args.stream c.self.view_is c.requires.inside c.requires.place c.requires.within (search rules) c.requires.room
@@ -75,7 +75,7 @@ invariant_of-self-in_err-renewed g c =
 
 pub invariant_of-self-2 : goal.invariant_of-self-2
 invariant_of-self-2 g c =
-    let d = c.self.inside.answers.graph.roster.declaration in
+    let d = declared c.self.inside.answers in
     let before = solver_of c.self.inside.ready c.self.inside.answers in
     let kept = c.self.inside.kept.items in
     let h = has_extended d c.self.inside.accepted c.deref_mut.result.now c.extend.new.accepted kept before
@@ -92,7 +92,7 @@ invariant_of-self-2 g c =
 
 pub returns-clause-answers : goal.returns-clause-answers
 returns-clause-answers g c =
-    let d = c.self.inside.answers.graph.roster.declaration in
+    let d = declared c.self.inside.answers in
     let before = solver_of c.self.inside.ready c.self.inside.answers in
     let kept = c.self.inside.kept.items in
     let h = has_extended d c.self.inside.accepted c.deref_mut.result.now c.extend.new.accepted kept before
@@ -107,7 +107,7 @@ returns-clause-answers g c =
     let problem : p ≡ problem_held (held_parts d c.extend.new.accepted kept after) = ap (λ (x : List (List Seen)). problem_of_seen d x) (sym (seen_accepted c.extend.new.accepted)) in
     let consistent : IsConsistent p c.in_ok-renewed.renewed.consistent =
     subst (λ (x : Declaration). IsConsistent (problem_of_seen x (seen_in c.extend.new.accepted)) c.in_ok-renewed.renewed.consistent) c.renew.ensures.declaration
-    (subst (λ (l : List Accepted). IsConsistent (problem_of_seen c.renew.new.answers.graph.roster.declaration (seen_in l)) c.in_ok-renewed.renewed.consistent) same c.in_ok-renewed.ensures.consistent) in
+    (subst (λ (l : List Accepted). IsConsistent (problem_of_seen (declared c.renew.new.answers) (seen_in l)) c.in_ok-renewed.renewed.consistent) same c.in_ok-renewed.ensures.consistent) in
     let change : IsChange (seen_in c.self.inside.accepted.items) (seen_in c.extend.new.accepted) c.in_ok-renewed.renewed.changed =
     subst (λ (l : List Accepted). IsChange (seen_in c.self.inside.accepted.items) (seen_in l) c.in_ok-renewed.renewed.changed) same
     (c.in_ok-renewed.ensures.changed (seen_in c.self.inside.accepted.items) kept (c.self.invariant.2 ready) here) in
@@ -121,9 +121,9 @@ returns-clause-room g c = where_weaker c.outcome_of.result (λ there. c.requires
 
 pub returns-clause-addition : goal.returns-clause-addition
 returns-clause-addition g c =
-    let d = c.self.inside.answers.graph.roster.declaration in
+    let d = declared c.self.inside.answers in
     let h = has_extended d c.self.inside.accepted c.deref_mut.result.now c.extend.new.accepted c.self.inside.kept.items (solver_of c.self.inside.ready c.self.inside.answers)
     c.args.self.now c.args.k c.len-more.result c.args.events.items c.args.size c.args.stream c.self.view_is c.requires.inside c.requires.place c.requires.within (search rules) c.requires.room
     c.deref_mut.ensures.value c.in_ok-extend.ensures.grown c.in_ok-extend.ensures.len (limits c.self.invariant.0) in
-    added_so d c.renew.new.answers.graph.roster.declaration c.self.inside.accepted.items c.extend.new.accepted (with_items c.self.inside.accepted c.extend.new.accepted).items c.self.inside.kept.items c.self.inside.ready
+    added_so d (declared c.renew.new.answers) c.self.inside.accepted.items c.extend.new.accepted (with_items c.self.inside.accepted c.extend.new.accepted).items c.self.inside.kept.items c.self.inside.ready
     c.self.inside.answers c.renew.new.answers c.args.self.now c.args.k c.len-more.result (seen_events c.args.events.items) c.args.size c.args.stream c.args.steps.now c.renew.new.steps h.is h.back h.count c.in_ok-renewed.ensures.addition

@@ -29,7 +29,7 @@ returns-in-Some-clause-answers g c =
     IfOk-weaker c.add_under.result _
     (λ outcome. CommandAnswered (Some (Add c.args.label.now c.args.path.now)) (g.F.Files.told c.args.files.now) (g.F.Files.told c.add_under.new.files) c.args.self.now c.add_under.new.self (IsOutcomeLine outcome))
     (λ outcome. under_command c.args.self.now c.add_under.new.self (g.F.Files.told c.args.files.now) (g.F.Files.told c.add_under.new.files) c.args.label.now c.args.path.now c.in-Some.k
-    (KeepsFound false c.args.self.now c.in-Some.k (seen_packets c.add_under.new.packets.items) outcome) (IsOutcomeLine outcome) there) c.add_under.ensures.answers
+    (KeepsFound false c.args.self.now c.in-Some.k (seen_packets c.add_under.new.completed.packets.items) outcome) (IsOutcomeLine outcome) there) c.add_under.ensures.answers
 
 pub returns-in-None-clause-answers : goal.returns-in-None-clause-answers
 returns-in-None-clause-answers g c =

@@ -23,6 +23,7 @@ use Rattle.session.proofs.Additions.{adds_nothing}
 use Rattle.session.proofs.AddedThere.{where_weaker}
 use Rattle.session.proofs.Holding.{IsWithinLimits, limits}
 use Rattle.replies.proofs.Elements.{some_same}
+use Rattle.session_answers.specs.Ready.{declared}
 use Rattle.session.proofs.session.Session.add_piece.Goals as goal
 
 pub returns-then-more-clause-answers : goal.returns-then-more-clause-answers
@@ -35,7 +36,7 @@ returns-then-not-has_place-clause-answers g c =
     let more : c.args.more ≡ false = search rules in
     let none : c.has_place.result ≡ false = search rules in
     let held = subst IsWithinLimits c.self.view_is (limits c.self.invariant.0) in
-    let at_under = under_at c.self.inside.answers.graph.roster.declaration c.self.inside.accepted.items _ _ c.args.self.now c.args.k c.index-under.result.now c.self.view_is (inside_under c.args.self.now c.args.k held c.requires.inside) c.index-under.ensures in
+    let at_under = under_at (declared c.self.inside.answers) c.self.inside.accepted.items _ _ c.args.self.now c.args.k c.index-under.result.now c.self.view_is (inside_under c.args.self.now c.args.k held c.requires.inside) c.index-under.ensures in
     piece_without_place c.args.self.now c.args.k (under_of c.index-under.result.now) c.args.more c.args.front.now (IsOutcomeLine (Refused TooManyBytes)) more at_under (sym c.has_place.ensures ∙ none) refl
 
 pub host_of-host-requires : goal.host_of-host-requires
@@ -56,7 +57,7 @@ pub read_piece-requires-clause-place : goal.read_piece-requires-clause-place
 read_piece-requires-clause-place g c =
     let place : c.has_place.result ≡ true = search rules in
     let held = subst IsWithinLimits c.self.view_is (limits c.self.invariant.0) in
-    let at_under = under_at c.self.inside.answers.graph.roster.declaration c.self.inside.accepted.items _ _ c.args.self.now c.args.k c.index-under.result.now c.self.view_is (inside_under c.args.self.now c.args.k held c.requires.inside) c.index-under.ensures in
+    let at_under = under_at (declared c.self.inside.answers) c.self.inside.accepted.items _ _ c.args.self.now c.args.k c.index-under.result.now c.self.view_is (inside_under c.args.self.now c.args.k held c.requires.inside) c.index-under.ensures in
     stream_fits c.args.self.now c.args.k (length c.args.front.now) (under_of c.index-under.result.now) held at_under
     (fits_place c.args.self.now.under c.args.k (length c.args.front.now) (under_of c.index-under.result.now) at_under (sym c.has_place.ensures ∙ place))
 
@@ -64,13 +65,13 @@ pub accept-requires-clause-place : goal.accept-requires-clause-place
 accept-requires-clause-place g c =
     let place : c.has_place.result ≡ true = search rules in
     let held = subst IsWithinLimits c.self.view_is (limits c.self.invariant.0) in
-    let at_under = under_at c.self.inside.answers.graph.roster.declaration c.self.inside.accepted.items _ _ c.args.self.now c.args.k c.index-under.result.now c.self.view_is (inside_under c.args.self.now c.args.k held c.requires.inside) c.index-under.ensures in
+    let at_under = under_at (declared c.self.inside.answers) c.self.inside.accepted.items _ _ c.args.self.now c.args.k c.index-under.result.now c.self.view_is (inside_under c.args.self.now c.args.k held c.requires.inside) c.index-under.ensures in
     fits_place c.args.self.now.under c.args.k (length c.args.front.now) (under_of c.index-under.result.now) at_under (sym c.has_place.ensures ∙ place)
 
 pub accept-requires-clause-within : goal.accept-requires-clause-within
 accept-requires-clause-within g c =
     let held = subst IsWithinLimits c.self.view_is (limits c.self.invariant.0) in
-    let at_under = under_at c.self.inside.answers.graph.roster.declaration c.self.inside.accepted.items _ _ c.args.self.now c.args.k c.index-under.result.now c.self.view_is (inside_under c.args.self.now c.args.k held c.requires.inside) c.index-under.ensures in
+    let at_under = under_at (declared c.self.inside.answers) c.self.inside.accepted.items _ _ c.args.self.now c.args.k c.index-under.result.now c.self.view_is (inside_under c.args.self.now c.args.k held c.requires.inside) c.index-under.ensures in
     let says : SaysEvents (declaration_of c.decl_of-decl.result.now) c.host_of-host.result c.index-under.result.now.stream c.args.front.now (seen_events c.in-Read.events.items) c.in-Read.stream =
     rw c.in-Read.is at c.in_ok-read.ensures.read in
     stream_within c.args.self.now (declaration_of c.decl_of-decl.result.now) c.host_of-host.result c.args.k (under_of c.index-under.result.now) c.in-Read.stream c.args.front.now (seen_events c.in-Read.events.items)
@@ -81,13 +82,13 @@ returns-in-Read-clause-answers g c =
     let more : c.args.more ≡ false = search rules in
     let place : c.has_place.result ≡ true = search rules in
     let held = subst IsWithinLimits c.self.view_is (limits c.self.invariant.0) in
-    let at_under = under_at c.self.inside.answers.graph.roster.declaration c.self.inside.accepted.items _ _ c.args.self.now c.args.k c.index-under.result.now c.self.view_is (inside_under c.args.self.now c.args.k held c.requires.inside) c.index-under.ensures in
+    let at_under = under_at (declared c.self.inside.answers) c.self.inside.accepted.items _ _ c.args.self.now c.args.k c.index-under.result.now c.self.view_is (inside_under c.args.self.now c.args.k held c.requires.inside) c.index-under.ensures in
     let says : SaysEvents (declaration_of c.decl_of-decl.result.now) c.host_of-host.result c.index-under.result.now.stream c.args.front.now (seen_events c.in-Read.events.items) c.in-Read.stream =
     rw c.in-Read.is at c.in_ok-read.ensures.read in
     let host : slice_get (map (λ (l : Label). l.host) c.decl_of-decl.result.now.labels.items) c.args.k ≡ Some c.host_of-host.result = rw (← c.deref.ensures.value) c.host_of-host.ensures in
-    let declared = c.decl_of-decl.ensures.same ∙ ap (λ (h : Held). h.declaration) c.self.view_is in
-    let at_host = subst (λ (d : Declaration). slice_get (map (λ (l : Label). l.host) d.labels) c.args.k ≡ Some c.host_of-host.result) declared host in
-    let by_held = subst (λ (d : Declaration). SaysEvents d c.host_of-host.result c.index-under.result.now.stream c.args.front.now (seen_events c.in-Read.events.items) c.in-Read.stream) declared says in
+    let declares = c.decl_of-decl.ensures.same ∙ ap (λ (h : Held). h.declaration) c.self.view_is in
+    let at_host = subst (λ (d : Declaration). slice_get (map (λ (l : Label). l.host) d.labels) c.args.k ≡ Some c.host_of-host.result) declares host in
+    let by_held = subst (λ (d : Declaration). SaysEvents d c.host_of-host.result c.index-under.result.now.stream c.args.front.now (seen_events c.in-Read.events.items) c.in-Read.stream) declares says in
     IfOk-weaker c.accept.result _ (λ outcome. FrontAnswered c.args.more c.args.front.now c.args.self.now c.accept.new.self c.args.k (IsOutcomeLine outcome))
     (λ outcome answered. piece_read c.args.self.now c.accept.new.self c.args.k (under_of c.index-under.result.now) c.args.more c.args.front.now (IsOutcomeLine outcome) more at_under (sym c.has_place.ensures ∙ place)
     (says_answered c.args.self.now c.accept.new.self c.args.k c.host_of-host.result c.args.front.now (under_of c.index-under.result.now) (seen_events c.in-Read.events.items) c.in-Read.stream (IsOutcomeLine outcome)
@@ -105,14 +106,14 @@ returns-in-TooManyEvents-clause-answers g c =
     let more : c.args.more ≡ false = search rules in
     let place : c.has_place.result ≡ true = search rules in
     let held = subst IsWithinLimits c.self.view_is (limits c.self.invariant.0) in
-    let at_under = under_at c.self.inside.answers.graph.roster.declaration c.self.inside.accepted.items _ _ c.args.self.now c.args.k c.index-under.result.now c.self.view_is (inside_under c.args.self.now c.args.k held c.requires.inside) c.index-under.ensures in
+    let at_under = under_at (declared c.self.inside.answers) c.self.inside.accepted.items _ _ c.args.self.now c.args.k c.index-under.result.now c.self.view_is (inside_under c.args.self.now c.args.k held c.requires.inside) c.index-under.ensures in
     let counted = count_is c.self.inside.accepted.items c.self.inside.kept.items c.self.inside.ready c.self.inside.answers c.args.self.now c.self.view_is c.requires.ready c.self.invariant.2 c.len-count.result c.len-count.ensures.count in
     let read : IsRead (declaration_of c.decl_of-decl.result.now) c.host_of-host.result c.room_left-room.result c.index-under.result.now.stream c.args.front.now pieces.TooManyEvents =
     rw c.in-TooManyEvents.is at c.in_ok-read.ensures.read in
     let host : slice_get (map (λ (l : Label). l.host) c.decl_of-decl.result.now.labels.items) c.args.k ≡ Some c.host_of-host.result = rw (← c.deref.ensures.value) c.host_of-host.ensures in
-    let declared = c.decl_of-decl.ensures.same ∙ ap (λ (h : Held). h.declaration) c.self.view_is in
-    let at_host = subst (λ (d : Declaration). slice_get (map (λ (l : Label). l.host) d.labels) c.args.k ≡ Some c.host_of-host.result) declared host in
-    let by_held = subst (λ (d : Declaration). SaysEvents d c.host_of-host.result c.index-under.result.now.stream c.args.front.now read.0 read.1) declared read.2 in
+    let declares = c.decl_of-decl.ensures.same ∙ ap (λ (h : Held). h.declaration) c.self.view_is in
+    let at_host = subst (λ (d : Declaration). slice_get (map (λ (l : Label). l.host) d.labels) c.args.k ≡ Some c.host_of-host.result) declares host in
+    let by_held = subst (λ (d : Declaration). SaysEvents d c.host_of-host.result c.index-under.result.now.stream c.args.front.now read.0 read.1) declares read.2 in
     let room = c.room_left-room.ensures ∙ ap (λ (n : ℕ). most_events - n) counted in
     let answered = refused_in c.args.self.now c.args.k c.room_left-room.result read.0 (length c.args.front.now) read.1 (IsOutcomeLine (Refused TooManyEvents)) (inside_under c.args.self.now c.args.k held c.requires.inside) room read.3 refl in
     piece_read c.args.self.now c.args.self.now c.args.k (under_of c.index-under.result.now) c.args.more c.args.front.now (IsOutcomeLine (Refused TooManyEvents)) more at_under (sym c.has_place.ensures ∙ place)
@@ -123,7 +124,7 @@ returns-in-Refused-clause-answers g c =
     let more : c.args.more ≡ false = search rules in
     let place : c.has_place.result ≡ true = search rules in
     let held = subst IsWithinLimits c.self.view_is (limits c.self.invariant.0) in
-    let at_under = under_at c.self.inside.answers.graph.roster.declaration c.self.inside.accepted.items _ _ c.args.self.now c.args.k c.index-under.result.now c.self.view_is (inside_under c.args.self.now c.args.k held c.requires.inside) c.index-under.ensures in
+    let at_under = under_at (declared c.self.inside.answers) c.self.inside.accepted.items _ _ c.args.self.now c.args.k c.index-under.result.now c.self.view_is (inside_under c.args.self.now c.args.k held c.requires.inside) c.index-under.ensures in
     let why : IsRefusedAs c.index-under.result.now.stream c.args.front.now c.in-Refused.refusal = rw c.in-Refused.is at c.in_ok-read.ensures.read in
     piece_read c.args.self.now c.args.self.now c.args.k (under_of c.index-under.result.now) c.args.more c.args.front.now (IsOutcomeLine (Refused c.in-Refused.refusal)) more at_under (sym c.has_place.ensures ∙ place)
     (refusal_answered c.args.self.now c.args.k c.args.front.now (under_of c.index-under.result.now) c.in-Refused.refusal (IsOutcomeLine (Refused c.in-Refused.refusal)) at_under refl why)
@@ -132,12 +133,12 @@ pub returns-in-Read-clause-packets : goal.returns-in-Read-clause-packets
 returns-in-Read-clause-packets g c = λ keeps.
     let more : c.args.more ≡ false = search rules in
     let held = subst IsWithinLimits c.self.view_is (limits c.self.invariant.0) in
-    let at_under = under_at c.self.inside.answers.graph.roster.declaration c.self.inside.accepted.items _ _ c.args.self.now c.args.k c.index-under.result.now c.self.view_is (inside_under c.args.self.now c.args.k held c.requires.inside) c.index-under.ensures in
+    let at_under = under_at (declared c.self.inside.answers) c.self.inside.accepted.items _ _ c.args.self.now c.args.k c.index-under.result.now c.self.view_is (inside_under c.args.self.now c.args.k held c.requires.inside) c.index-under.ensures in
     let has : HasPackets c.index-under.result.now.stream c.args.front.now (seen_packets c.read_piece.new.packets.items) (pieces.Read c.in-Read.events c.in-Read.stream) = rw c.in-Read.is at c.in_ok-read.ensures.packets in
-    let here : Completes c.index-under.result.now.stream c.args.front.now (seen_packets c.keep_only.new.packets.items) =
+    let here : Completes c.index-under.result.now.stream c.args.front.now (seen_packets c.keep_only.new.completed.packets.items) =
     subst (λ (ps : List Packet). Completes c.index-under.result.now.stream c.args.front.now (seen_packets ps)) (sym (c.keep_only.ensures keeps)) has.0 in
-    IfOk-weaker c.accept.result _ (CompletesFront c.args.more c.args.front.now c.args.self.now c.args.k (seen_packets c.keep_only.new.packets.items))
-    (λ outcome. where_weaker outcome (λ room. (more, λ u at. subst (λ (v : Under). Completes v.stream c.args.front.now (seen_packets c.keep_only.new.packets.items)) (some_same (under_of c.index-under.result.now) u (sym at_under ∙ at)) here)))
+    IfOk-weaker c.accept.result _ (CompletesFront c.args.more c.args.front.now c.args.self.now c.args.k (seen_packets c.keep_only.new.completed.packets.items))
+    (λ outcome. where_weaker outcome (λ room. (more, λ u at. subst (λ (v : Under). Completes v.stream c.args.front.now (seen_packets c.keep_only.new.completed.packets.items)) (some_same (under_of c.index-under.result.now) u (sym at_under ∙ at)) here)))
     c.accept.ensures.room
 
 pub returns-in-Read-clause-room : goal.returns-in-Read-clause-room
@@ -145,10 +146,10 @@ returns-in-Read-clause-room g c = λ keeps.
     let has : HasPackets c.index-under.result.now.stream c.args.front.now (seen_packets c.read_piece.new.packets.items) (pieces.Read c.in-Read.events c.in-Read.stream) = rw c.in-Read.is at c.in_ok-read.ensures.packets in
     let few : length (seen_packets c.read_piece.new.packets.items) ≤ length c.in-Read.events.items = has.1 in
     let count = length-map c.read_piece.new.packets.items seen_packet in
-    let same : length c.keep_only.new.packets.items ≡ length c.read_piece.new.packets.items = ap length (c.keep_only.ensures keeps) in
+    let same : length c.keep_only.new.completed.packets.items ≡ length c.read_piece.new.packets.items = ap length (c.keep_only.ensures keeps) in
     let events : ℕ = event_count (seen_held c.args.self.now.under) in
-    IfOk-weaker c.accept.result _ (HadRoom c.args.self.now (length c.keep_only.new.packets.items))
-    (λ outcome. where_weaker outcome (λ room. let all : events + length c.in-Read.events.items ≤ most_events = room in let less : events + length c.keep_only.new.packets.items ≤ most_events = omega (arith, all, few, count, same) in less))
+    IfOk-weaker c.accept.result _ (HadRoom c.args.self.now (length c.keep_only.new.completed.packets.items))
+    (λ outcome. where_weaker outcome (λ room. let all : events + length c.in-Read.events.items ≤ most_events = room in let less : events + length c.keep_only.new.completed.packets.items ≤ most_events = omega (arith, all, few, count, same) in less))
     c.accept.ensures.room
 
 pub returns-then-more-clause-addition : goal.returns-then-more-clause-addition

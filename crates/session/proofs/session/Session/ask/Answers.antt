@@ -6,7 +6,7 @@ use Rattle.traces.specs.declared.accepted.Accepted.{Accepted}
 use Rattle.traces.specs.Traces.{event_count}
 use Rattle.traces.specs.Held.{passed_in, seen_in}
 use Rattle.session.specs.Stands.{Held, held_parts, solver_of}
-use Rattle.session_answers.specs.Ready.{AreAnswersOf}
+use Rattle.session_answers.specs.Ready.{AreAnswersOf, declared}
 use Rattle.replies.specs.Commands.{Ask, question_seen}
 use Rattle.replies.specs.Reply.{IsAnswerTo}
 use Rattle.session.specs.Inside.{UnreadAnswered}
@@ -19,11 +19,11 @@ use Rattle.session.proofs.Holding.{limits, accepted_each, accepted_few}
 use Rattle.session.proofs.session.Session.ask.Goals as goal
 
 pub answer-requires-clause-labels : goal.answer-requires-clause-labels
-answer-requires-clause-labels g c = ap length c.deref.ensures.value ∙ accepted_each c.self.inside.answers.graph.roster.declaration c.self.inside.accepted.items _ _ (limits c.self.invariant.0)
+answer-requires-clause-labels g c = ap length c.deref.ensures.value ∙ accepted_each (declared c.self.inside.answers) c.self.inside.accepted.items _ _ (limits c.self.invariant.0)
 
 pub answer-requires-clause-few : goal.answer-requires-clause-few
 answer-requires-clause-few g c =
-    subst (λ (l : List Accepted). event_count (seen_in l) ≤ most_events) (sym c.deref.ensures.value) (accepted_few c.self.inside.answers.graph.roster.declaration c.self.inside.accepted.items _ _ (limits c.self.invariant.0))
+    subst (λ (l : List Accepted). event_count (seen_in l) ≤ most_events) (sym c.deref.ensures.value) (accepted_few (declared c.self.inside.answers) c.self.inside.accepted.items _ _ (limits c.self.invariant.0))
 
 pub answer-requires-clause-ready : goal.answer-requires-clause-ready
 answer-requires-clause-ready g c =
@@ -32,12 +32,12 @@ answer-requires-clause-ready g c =
 
 pub returns-clause-writes : goal.returns-clause-writes
 returns-clause-writes g c =
-    let d = c.self.inside.answers.graph.roster.declaration in
+    let d = declared c.self.inside.answers in
     let kept = c.self.inside.kept.items in
     let before = solver_of c.self.inside.ready c.self.inside.answers in
     let after = solver_of c.self.inside.ready c.answer.new.answers in
     let q = question_seen c.args.question in
-    let same : c.answer.new.answers.graph.roster.declaration ≡ d = ap (λ (r : RosterLists). r.declaration) c.answer.ensures.roster in
+    let same : declared c.answer.new.answers ≡ d = ap (λ (r : RosterLists). r.declaration) c.answer.ensures.roster in
     reply_such (λ IsWritten told. subst (λ (x : Declaration). UnreadAnswered c.args.self.now (held_parts x c.self.inside.accepted.items kept after) (Ask q) IsWritten) (sym same)
     (subst (λ (h : Held). UnreadAnswered h (held_parts d c.self.inside.accepted.items kept after) (Ask q) IsWritten) c.self.view_is
     (answered d c.self.inside.accepted.items q IsWritten (subst (λ (l : List Accepted). Told (IsAnswerTo q d (seen_in l) (passed_in l)) IsWritten) c.deref.ensures.value told) kept before after))) c.answer.ensures.writes
@@ -55,7 +55,7 @@ returns-clause-steps g c = λ rows.
 
 pub invariant_of-self : goal.invariant_of-self
 invariant_of-self g c =
-    let d = c.self.inside.answers.graph.roster.declaration in
+    let d = declared c.self.inside.answers in
     let kept = c.self.inside.kept.items in
     let accepted = c.self.inside.accepted.items in
     let left : c.self.inside.ready ≡ true → AreAnswersOf (seen_in accepted) kept c.answer.new.answers = λ is.

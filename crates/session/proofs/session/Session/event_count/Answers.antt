@@ -7,6 +7,7 @@ use Rattle.session_answers.proofs.RosterEvents.{came_count}
 use Rattle.session.specs.Stands.{Held, seen_held, solver_of}
 use Rattle.session.proofs.Counting.{least_of_few}
 use Rattle.session.proofs.Holding.{limits, accepted_few, seen_accepted}
+use Rattle.session_answers.specs.Ready.{declared}
 use Rattle.session.proofs.session.Session.event_count.Goals as goal
 
 pub returns-then-self : goal.returns-then-self
@@ -20,7 +21,7 @@ returns-then-self c =
 pub returns : goal.returns
 returns c =
     let inside = c.self.inside in
-    let few = accepted_few inside.answers.graph.roster.declaration inside.accepted.items inside.kept.items (solver_of inside.ready inside.answers) (limits c.self.invariant.0) in
+    let few = accepted_few (declared inside.answers) inside.accepted.items inside.kept.items (solver_of inside.ready inside.answers) (limits c.self.invariant.0) in
     c.event_count.ensures
     ∙ ap (λ (l : List Accepted). min (event_count (seen_in l)) (2 ^ 64 - 1)) c.deref.ensures.value
     ∙ least_of_few (event_count (seen_in inside.accepted.items)) (2 ^ 64 - 1) (most_events) few (omega arith)

@@ -7,7 +7,7 @@ use Rattle.traces.specs.Held.{seen_in}
 use Rattle.replies.specs.Commands.{Keep}
 use Rattle.replies.specs.Outcomes.{IsOutcomeLine, outcome_line}
 use Rattle.session.specs.Stands.{Held, held_parts, solver_of}
-use Rattle.session_answers.specs.Ready.{AreAnswersOf}
+use Rattle.session_answers.specs.Ready.{AreAnswersOf, declared}
 use Rattle.session.specs.Inside.{UnreadAnswered}
 use Rattle.session.proofs.Replying.{keep_answered}
 use Rattle.session.proofs.Standby.{ready_of, ready_some, on_ok, of_ok}
@@ -22,15 +22,15 @@ keep_event-kept-requires g c =
 
 pub returns-else-is_err-clause-answers : goal.returns-else-is_err-clause-answers
 returns-else-is_err-clause-answers g c =
-    let d = c.self.inside.answers.graph.roster.declaration in
+    let d = declared c.self.inside.answers in
     let accepted = c.self.inside.accepted.items in
     let kept = c.self.inside.kept.items in
     let kept' = c.keep_event-kept.new.kept.items in
     let before = solver_of c.self.inside.ready c.self.inside.answers in
     let after = solver_of c.self.inside.ready c.keep_event-kept.new.answers in
     let ready : c.self.inside.ready ≡ true = ready_of c.args.self.now c.self.inside.ready c.self.inside.answers (ap (λ (h : Held). h.answers) c.self.view_is) c.requires.ready in
-    let same : c.keep_event-kept.new.answers.graph.roster.declaration ≡ d = ap (λ (r : RosterLists). r.declaration) c.keep_event-kept.ensures.roster in
-    IfOk-weaker c.keep_event-kept.result _ (λ outcome. UnreadAnswered c.args.self.now (held_parts c.keep_event-kept.new.answers.graph.roster.declaration accepted kept' after) (Keep c.args.event.now) (IsOutcomeLine outcome))
+    let same : declared c.keep_event-kept.new.answers ≡ d = ap (λ (r : RosterLists). r.declaration) c.keep_event-kept.ensures.roster in
+    IfOk-weaker c.keep_event-kept.result _ (λ outcome. UnreadAnswered c.args.self.now (held_parts (declared c.keep_event-kept.new.answers) accepted kept' after) (Keep c.args.event.now) (IsOutcomeLine outcome))
     (λ outcome reply. subst (λ (x : Declaration). UnreadAnswered c.args.self.now (held_parts x accepted kept' after) (Keep c.args.event.now) (IsOutcomeLine outcome)) (sym same)
     (subst (λ (h : Held). UnreadAnswered h (held_parts d accepted kept' after) (Keep c.args.event.now) (IsOutcomeLine outcome)) c.self.view_is
     (keep_answered d accepted kept kept' before after c.args.event.now (outcome_line outcome) reply))) (c.keep_event-kept.ensures.replies (seen_in accepted) c.self.invariant.1 (c.self.invariant.2 ready))
@@ -42,7 +42,7 @@ returns-else-is_err-clause-ready g c =
 
 pub invariant_of-self : goal.invariant_of-self
 invariant_of-self g c =
-    let d = c.self.inside.answers.graph.roster.declaration in
+    let d = declared c.self.inside.answers in
     let accepted = c.self.inside.accepted.items in
     let kept' = c.keep_event-kept.new.kept.items in
     let ready : c.self.inside.ready ≡ true = ready_of c.args.self.now c.self.inside.ready c.self.inside.answers (ap (λ (h : Held). h.answers) c.self.view_is) c.requires.ready in
@@ -52,7 +52,7 @@ invariant_of-self g c =
 
 pub invariant_of-self-else-is_err : goal.invariant_of-self-else-is_err
 invariant_of-self-else-is_err g c =
-    let d = c.self.inside.answers.graph.roster.declaration in
+    let d = declared c.self.inside.answers in
     let accepted = c.self.inside.accepted.items in
     let kept' = c.keep_event-kept.new.kept.items in
     let ready : c.self.inside.ready ≡ true = ready_of c.args.self.now c.self.inside.ready c.self.inside.answers (ap (λ (h : Held). h.answers) c.self.view_is) c.requires.ready in

@@ -7,7 +7,7 @@ use Rattle.problem_model.specs.Problem.{ProblemLists}
 use Rattle.queries.specs.Consistent.{IsConsistent}
 use Rattle.roster.specs.Roster.{listed}
 use Rattle.session.specs.Stands.{Held, problem_held, seen_held}
-use Rattle.session_answers.specs.Ready.{answers_problem}
+use Rattle.session_answers.specs.Ready.{answers_problem, declared}
 use Rattle.session.proofs.Holding.{seen_accepted}
 use Rattle.session.proofs.Standby.{ready_of}
 use Rattle.mergecap.specs.Packets.{all_timed}
@@ -22,7 +22,7 @@ settle_each-requires-clause-current c =
     let a = c.self.inside.answers in
     let seen = seen_in c.self.inside.accepted.items in
     let p = answers_problem a seen in
-    let same : problem_held c.args.self.now ≡ p = ap problem_held (sym c.self.view_is) ∙ ap (λ (x : List (List Seen)). problem_of_seen a.graph.roster.declaration x) (seen_accepted c.self.inside.accepted.items) in
+    let same : problem_held c.args.self.now ≡ p = ap problem_held (sym c.self.view_is) ∙ ap (λ (x : List (List Seen)). problem_of_seen (declared a) x) (seen_accepted c.self.inside.accepted.items) in
     let ready : c.self.inside.ready ≡ true = ready_of c.args.self.now c.self.inside.ready a (ap (λ (h : Held). h.answers) c.self.view_is) c.requires.ready in
     let are = c.self.invariant.2 ready in
     are.graph.solution.current
@@ -32,7 +32,7 @@ settle_each-requires-clause-solved c =
     let a = c.self.inside.answers in
     let seen = seen_in c.self.inside.accepted.items in
     let p = answers_problem a seen in
-    let same : problem_held c.args.self.now ≡ p = ap problem_held (sym c.self.view_is) ∙ ap (λ (x : List (List Seen)). problem_of_seen a.graph.roster.declaration x) (seen_accepted c.self.inside.accepted.items) in
+    let same : problem_held c.args.self.now ≡ p = ap problem_held (sym c.self.view_is) ∙ ap (λ (x : List (List Seen)). problem_of_seen (declared a) x) (seen_accepted c.self.inside.accepted.items) in
     let ready : c.self.inside.ready ≡ true = ready_of c.args.self.now c.self.inside.ready a (ap (λ (h : Held). h.answers) c.self.view_is) c.requires.ready in
     let are = c.self.invariant.2 ready in
     none_held a.graph.solver.contradiction (listed a.graph.roster) p (subst (λ (q : ProblemLists). IsConsistent q true) same c.requires.consistent)
@@ -43,7 +43,7 @@ settle_each-requires-clause-nodes c =
     let a = c.self.inside.answers in
     let seen = seen_in c.self.inside.accepted.items in
     let p = answers_problem a seen in
-    let same : problem_held c.args.self.now ≡ p = ap problem_held (sym c.self.view_is) ∙ ap (λ (x : List (List Seen)). problem_of_seen a.graph.roster.declaration x) (seen_accepted c.self.inside.accepted.items) in
+    let same : problem_held c.args.self.now ≡ p = ap problem_held (sym c.self.view_is) ∙ ap (λ (x : List (List Seen)). problem_of_seen (declared a) x) (seen_accepted c.self.inside.accepted.items) in
     let ready : c.self.inside.ready ≡ true = ready_of c.args.self.now c.self.inside.ready a (ap (λ (h : Held). h.answers) c.self.view_is) c.requires.ready in
     let are = c.self.invariant.2 ready in
     are.graph.grown.knows
@@ -53,7 +53,7 @@ settle_each-requires-clause-there c =
     let a = c.self.inside.answers in
     let seen = seen_in c.self.inside.accepted.items in
     let p = answers_problem a seen in
-    let same : problem_held c.args.self.now ≡ p = ap problem_held (sym c.self.view_is) ∙ ap (λ (x : List (List Seen)). problem_of_seen a.graph.roster.declaration x) (seen_accepted c.self.inside.accepted.items) in
+    let same : problem_held c.args.self.now ≡ p = ap problem_held (sym c.self.view_is) ∙ ap (λ (x : List (List Seen)). problem_of_seen (declared a) x) (seen_accepted c.self.inside.accepted.items) in
     let ready : c.self.inside.ready ≡ true = ready_of c.args.self.now c.self.inside.ready a (ap (λ (h : Held). h.answers) c.self.view_is) c.requires.ready in
     let are = c.self.invariant.2 ready in
     let held : seen_held c.args.self.now.under ≡ seen = ap (λ (h : Held). seen_held h.under) (sym c.self.view_is) ∙ seen_accepted c.self.inside.accepted.items in
@@ -64,7 +64,7 @@ returns-clause-settled c =
     let a = c.self.inside.answers in
     let seen = seen_in c.self.inside.accepted.items in
     let p = answers_problem a seen in
-    let same : problem_held c.args.self.now ≡ p = ap problem_held (sym c.self.view_is) ∙ ap (λ (x : List (List Seen)). problem_of_seen a.graph.roster.declaration x) (seen_accepted c.self.inside.accepted.items) in
+    let same : problem_held c.args.self.now ≡ p = ap problem_held (sym c.self.view_is) ∙ ap (λ (x : List (List Seen)). problem_of_seen (declared a) x) (seen_accepted c.self.inside.accepted.items) in
     let ready : c.self.inside.ready ≡ true = ready_of c.args.self.now c.self.inside.ready a (ap (λ (h : Held). h.answers) c.self.view_is) c.requires.ready in
     let are = c.self.invariant.2 ready in
     let held : seen_held c.args.self.now.under ≡ seen = ap (λ (h : Held). seen_held h.under) (sym c.self.view_is) ∙ seen_accepted c.self.inside.accepted.items in
@@ -73,7 +73,7 @@ returns-clause-settled c =
     let e = c.executions.ensures.earliest (listed a.graph.roster) p (all_readings p.events) a.graph.solver (own_readings p) are.graph.solution none in
     let old = all_timed c.args.kept.now in
     let there = subst (λ (x : List (List Seen)). All (HasEventOf x) old) held c.requires.there in
-    let done : AreSettled a.graph.roster.declaration seen old (all_timed c.settle_each.new.kept) =
+    let done : AreSettled (declared a) seen old (all_timed c.settle_each.new.kept) =
     record { times = e.0; earliest = e.2; are = c.settle_each.ensures ∙ all_settled a.graph.roster are.lawful seen are.graph.holds a.graph.solver p (all_readings p.events) e.0 e.1 refl old there } in
     subst (λ (x : List (List Seen)). AreSettled c.args.self.now.declaration x old (all_timed c.settle_each.new.kept)) (sym held)
     (subst (λ (d : Declaration). AreSettled d seen old (all_timed c.settle_each.new.kept)) (ap (λ (h : Held). h.declaration) c.self.view_is) done)
@@ -83,7 +83,7 @@ returns-clause-from_zero c =
     let a = c.self.inside.answers in
     let seen = seen_in c.self.inside.accepted.items in
     let p = answers_problem a seen in
-    let same : problem_held c.args.self.now ≡ p = ap problem_held (sym c.self.view_is) ∙ ap (λ (x : List (List Seen)). problem_of_seen a.graph.roster.declaration x) (seen_accepted c.self.inside.accepted.items) in
+    let same : problem_held c.args.self.now ≡ p = ap problem_held (sym c.self.view_is) ∙ ap (λ (x : List (List Seen)). problem_of_seen (declared a) x) (seen_accepted c.self.inside.accepted.items) in
     let ready : c.self.inside.ready ≡ true = ready_of c.args.self.now c.self.inside.ready a (ap (λ (h : Held). h.answers) c.self.view_is) c.requires.ready in
     let are = c.self.invariant.2 ready in
     let held : seen_held c.args.self.now.under ≡ seen = ap (λ (h : Held). seen_held h.under) (sym c.self.view_is) ∙ seen_accepted c.self.inside.accepted.items in
