@@ -38,6 +38,7 @@ fn span_between(p: &Problem, extreme: Extreme, clock: u32, s: Nano, t: Nano) -> 
     if s.get() >= t.get() {
         return None;
     }
+    // It tells what the readings of the problem are.
     let _ = p.readings();
     let _low = p.reading_place(clock, s)?;
     let _high = p.reading_place(clock, t)?;
@@ -48,6 +49,7 @@ fn span_of(p: &Problem, extreme: Extreme, w: &SpanWords) -> Option<Bound>
     ensures some { IfSome result (λ b. FindsSpan p.now extreme w.now b) }
     ensures none { IfNone result (FindsNoSpan p.now extreme w.now) }
 {
+    // It tells that the problem is lawful.
     let _ = p.events();
     let clock = p.clock_place(&w.clock)?;
     let s = nano_of(w.s)?;
@@ -68,6 +70,7 @@ fn stamp_of(p: &Problem, kind: StampBound, event: &Name) -> Option<Bound>
     ensures some { IfSome result (λ b. FindsNamed p.now (Stamp kind event.now) b) }
     ensures none { IfNone result (FindsNoNamed p.now (Stamp kind event.now)) }
 {
+    // It tells that the problem is lawful.
     let _ = p.events();
     let event = p.event_place(event)?;
     Some(stamp_named(kind, event))
@@ -83,6 +86,7 @@ fn follow_between(p: &Problem, earlier: u32, s: Nano, later: u32, t: Nano) -> Op
     if !p.comes_after(earlier, later) {
         return None;
     }
+    // It tells what the readings of the problem are.
     let _ = p.readings();
     let _first = p.reading_place(earlier, s)?;
     let _second = p.reading_place(later, t)?;
@@ -98,6 +102,7 @@ fn follow_of(p: &Problem, w: &FollowWords) -> Option<Bound>
     ensures some { IfSome result (λ b. FindsFollow p.now w.now b) }
     ensures none { IfNone result (FindsNoFollow p.now w.now) }
 {
+    // It tells that the problem is lawful.
     let _ = p.events();
     let earlier = p.clock_place(&w.earlier)?;
     let later = p.clock_place(&w.later)?;
@@ -142,6 +147,7 @@ fn delay_of(p: &Problem, extreme: Extreme, send: &Name, receive: &Name) -> Optio
     ensures some { IfSome result (λ b. FindsNamed p.now (Delay extreme send.now receive.now) b) }
     ensures none { IfNone result (FindsNoNamed p.now (Delay extreme send.now receive.now)) }
 {
+    // It tells that the problem is lawful.
     let _ = p.events();
     let send = p.event_place(send)?;
     let receive = p.event_place(receive)?;

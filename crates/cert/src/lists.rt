@@ -18,6 +18,7 @@ pub fn write_steps<O: Sink>(p: &Problem, steps: &[Step], out: &mut O) -> Result<
     requires { All (IsStepOf p.now) steps.now }
     ensures { Writes (flat_map (step_line p.now) steps.now) (O.told out.old) (O.told out.new) result }
 {
+    // It tells that the problem is lawful.
     let _ = p.messages();
     for step in steps {
         write_step(p, &step.bound, step.weight.get(), out)?;

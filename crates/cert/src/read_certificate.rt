@@ -169,6 +169,7 @@ fn read_lines(alloc: Global, p: &Problem, lines: &[u8]) -> Result<Cert, CertErro
     requires { length (line_of certificate_head ++ lines.now) ≤ most_text_bytes }
     ensures { ReadsCertOver p.now (all_readings p.now.events) (line_of certificate_head ++ lines.now) result }
 {
+    // It tells what the readings of the problem are.
     let _ = p.readings();
     let mut parts = Parts::Nothing;
     let mut rest = lines;

@@ -107,6 +107,7 @@ fn push_inside(p: &Problem, inside: &mut Vec<u32>, name: &Name) -> Result<(), Li
     requires { AllPairs (λ j k. j < k) inside.old.items }
     ensures { TakesInside p.now inside.old.items name.now result inside.new.items }
 {
+    // It tells that the problem is lawful.
     let _ = p.clocks();
     let Some(clock) = p.clock_place(name) else {
         return Err(LineError::Fault(FaultKind::Name));

@@ -78,6 +78,7 @@ pub fn attained_fault(
         (Attains p.now first second value execution.now) result }
     ensures small { IfSome result IsSmallReason }
 {
+    // It tells that the problem is lawful.
     let _ = p.events();
     match run_fault(p, execution) {
         None => difference_fault(p, first, second, value, execution),

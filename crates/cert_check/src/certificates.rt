@@ -30,6 +30,7 @@ fn end_fault(p: &Problem, part: Part, first: u32, second: u32, end: &EndProof) -
     ensures found { FindsFault part (EndIs p.now part first second end.now) (ShowsEnd p.now part first second end.now) result }
     ensures small { IfSome result IsSmallReason }
 {
+    // It tells that the problem is lawful.
     let _ = p.events();
     match end {
         EndProof::At {
@@ -65,6 +66,7 @@ fn ends_answer(p: &Problem, first: u32, second: u32, upper: &EndProof, lower: &E
     ensures answer { IsAnswer p.now (certs.Ends first second upper.now lower.now) result }
     ensures small { IsSmallAnswer result }
 {
+    // It tells that the problem is lawful.
     let _ = p.events();
     match end_fault(p, Part::Upper, first, second, upper) {
         None => answer(Part::Lower, end_fault(p, Part::Lower, first, second, lower)),
@@ -81,6 +83,7 @@ pub fn check_cycle(p: &Problem, extra: Nano, c: &Chain) -> Answer
     ensures exact { Shows (widened p.now extra) (certs.Cycle c.now) → result ≡ answers.Yes }
     ensures small { IsSmallAnswer result }
 {
+    // It tells that the problem is lawful.
     let _ = p.events();
     answer(Part::Cycle, cycle_fault(p, extra, c))
 }
@@ -96,6 +99,7 @@ pub fn check(p: &Problem, c: &Cert) -> Answer
     ensures exact { Shows p.now c.now → result ≡ answers.Yes }
     ensures small { IsSmallAnswer result }
 {
+    // It tells that the problem is lawful.
     let _ = p.events();
     match c {
         Cert::Cycle(chain) => check_cycle(p, no_extra(), chain),

@@ -84,6 +84,7 @@ fn leaving_follow(p: &Problem, inside: &[u32], later: u32) -> Option<Bound>
     ensures { (readings : List Reading) → AreReadings p.now readings
         → FindsLeaving p.now inside.now (follow_bound (nearest_reading readings (clocks_before p.now.follows later later)) (first_reading readings later)) result }
 {
+    // It tells that the problem is lawful.
     let _ = p.clocks();
     match p.nearest_follow(later) {
         Some(follow) => {
@@ -163,6 +164,7 @@ pub fn cut_fault(p: &Problem, part: Part, first: u32, second: u32, inside: &[u32
     ensures found { FindsFault part (CutIs p.now part first second inside.now) (Parts p.now inside.now (home_of part first second) (away_of part first second)) result }
     ensures small { IfSome result IsSmallReason }
 {
+    // It tells that the problem is lawful.
     let _ = p.events();
     let _readings = p.readings();
     if !is_inside(p, inside, home_of(part, first, second)) {

@@ -57,6 +57,7 @@ pub fn cycle_fault(p: &Problem, extra: Nano, chain: &Chain) -> Option<Reason>
     ensures found { FindsFault parts.Cycle (CycleIs (widened p.now extra) chain.now) (IsContradictionOf (widened p.now extra) (weighed_bounds chain.now)) result }
     ensures small { IfSome result IsSmallReason }
 {
+    // It tells that the problem is lawful.
     let _ = p.events();
     if chain.is_empty() {
         return Some(Reason::Empty);

@@ -182,6 +182,7 @@ fn gap_to(p: &Problem, later: u32) -> Nano
     requires { (f : Follow) × LeadsTo p.now f later }
     ensures { (f : Follow) → LeadsTo p.now f later → result ≡ f.gap }
 {
+    // It tells that the problem is lawful.
     let _ = p.follows();
     match p.follow_to(later) {
         Some(follow) => follow.gap,

@@ -67,6 +67,7 @@ pub fn path_fault(
         (Goes p.now part (nodes.Event second) (weighed_bounds path.now) (nodes.Event first) × (weight_of (weighed_bounds path.now) ≡ sum_for part value)) result }
     ensures small { IfSome result IsSmallReason }
 {
+    // It tells that the problem is lawful.
     let _ = p.events();
     match walk_over(p, no_extra(), part, &Node::Event(second), path) {
         Walk::Astray(step) => Some(Reason::Join(step)),

@@ -237,6 +237,7 @@ fn judge_follow(p: &Problem, e: &Execution, later: u32) -> Verdict
         → Judges (widened p.now extra) x (follow_bound (nearest_reading readings (clocks_before p.now.follows later later)) (first_reading readings later)) result }
     ensures small { IsSmallVerdict result }
 {
+    // It tells that the problem is lawful.
     let _ = p.clocks();
     match p.nearest_follow(later) {
         Some(follow) => {
@@ -285,6 +286,7 @@ pub fn obeys_widened(p: &Problem, extra: Nano, e: &Execution) -> Verdict
     ensures verdict { (x : Times) → Lists p.now x e.now → IsVerdict (widened p.now extra) x result }
     ensures small { IsSmallVerdict result }
 {
+    // It tells that the problem is lawful.
     let _ = p.events();
     match judge_spans(p, e) {
         Verdict::Obeys => match judge_stamps(p, e) {

@@ -46,6 +46,7 @@ pub fn write_capture<O: Sink>(kept: &[Stored], out: &mut O) -> Result<(), Failed
     ensures written { Writes (merged_capture (all_timed kept.now)) (O.told out.old) (O.told out.new) result }
     ensures read_back { IsReadBack (all_timed kept.now) }
 {
+    // It tells how a merged capture is read.
     merged_captures_are_read();
     write_whole(out, header(link_of(kept)).as_slice())?;
     write_records(kept, out)

@@ -292,6 +292,7 @@ pub fn take(version: Version, items: &mut Items, body: &[u8]) -> Result<Taken, L
     ensures said { IsSaid version items.old → OnOk result (IsSaid version items.new) }
 {
     let taken = take_form(version, items, body);
+    // It tells that the items are lawful.
     let _ = items.clocks();
     taken
 }

@@ -55,6 +55,7 @@ impl Listing for Problem {
     }
 
     fn reading_count(&self) -> u32 {
+        // It tells that the problem is lawful.
         let _ = self.events();
         self.readings().len() as u32
     }

@@ -124,6 +124,7 @@ impl Problem {
         ensures some { IfSome result (λ k. (readings : List Reading) → AreReadings self.now readings → slice_get readings k ≡ Some (clock, stamp)) }
         ensures none { IfNone result (IsReading self.now clock stamp → ⊥) }
     {
+        // It tells that the items are lawful.
         let _ = self.items.events();
         match place_of(&self.readings, clock, stamp) {
             Some(place) => Some(place as u32),

@@ -64,6 +64,7 @@ fn write_events<N: Listing, O: Sink>(
     ensures writes { WritesSuch (Replies (problem_of_seen (declaration_of decl.now) (seen_in accepted.now)) (IsMergeText (declaration_of decl.now) (seen_in accepted.now))) stops.WriteFault (O.told out.old) (O.told out.new) result }
     ensures untouched { IsErrOf result stops.Memory → O.told out.new ≡ O.told out.old }
 {
+    // It tells what the values of nodes are.
     executions();
     let events = events(alloc, accepted)?;
     write_merged(alloc, decl, names, &events, solver.earliest(), out)

@@ -44,6 +44,7 @@ fn last_cycle(alloc: Global, p: &Problem, arcs: &[Arc], extra: u64) -> Result<Tr
     requires cycle { IsCycleFor p.now extra arcs.now }
     ensures { IfOk result (λ tried. IsTried p.now extra tried) }
 {
+    // They tell that the problem is lawful, and what the readings of the problem are.
     let _ = p.events();
     let _ = p.readings();
     let rise = last_rise(arcs, extra);
@@ -61,9 +62,11 @@ fn run_held(alloc: Global, p: &Problem, s: &Solver) -> Result<Tried, AllocError>
     requires graph { HoldsShortList p.now s.now.graph }
     ensures { IfOk result (λ tried. IsTried p.now 0 tried) }
 {
+    // They tell that the problem is lawful, and what the readings of the problem are.
     let _ = p.events();
     let _ = p.readings();
     let g = s.graph();
+    // It tells what the lists of the graph hold.
     g.exact();
     let execution = execution_of(alloc, s.earliest(), g.nodes())?;
     Ok(Tried::Run(execution))
@@ -76,6 +79,7 @@ fn cycle_held(alloc: Global, p: &Problem, s: &Solver) -> Result<Tried, AllocErro
     requires graph { HoldsShortList p.now s.now.graph }
     ensures { IfOk result (λ tried. IsTried p.now 0 tried) }
 {
+    // They tell that the problem is lawful, and what the readings of the problem are.
     let _ = p.events();
     let _ = p.readings();
     last_cycle(alloc, p, s.contradiction(), 0)
@@ -107,6 +111,7 @@ fn said_of_problem(
     requires found { IsGraphSolution g.now found.now }
     ensures { IfOk result (λ tried. IsTried p.now extra tried) }
 {
+    // They tell that the problem is lawful, what the readings of the problem are, and what the lists of the graph hold.
     let _ = p.events();
     let _ = p.readings();
     g.exact();
@@ -134,6 +139,7 @@ pub fn try_widening<L: Ledger>(
     requires order { AreAllArcs g.now order.now }
     ensures { IfOk result (λ tried. IsTried p.now extra tried) }
 {
+    // They tell that the problem is lawful, what the readings of the problem are, and what the lists of the graph hold.
     let _ = p.events();
     let _ = p.readings();
     g.exact();

@@ -23,6 +23,7 @@ use sync_graph::Graph;
 fn all_arcs(alloc: Global, g: &Graph) -> Result<Vec<u32>, AllocError>
     ensures { IfOk result (λ order. AreAllArcs g.now order.items) }
 {
+    // It tells what the lists of the graph hold.
     g.exact();
     let mut order = Vec::new(alloc);
     for k in 0..g.arcs() {

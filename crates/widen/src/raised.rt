@@ -51,6 +51,7 @@ pub fn widened_graph(alloc: Global, g: &Graph, extra: u64) -> Result<Graph, Allo
     ensures arcs { IfOk result (λ h. h.arcs ≡ map (raised_arc extra) g.now.arcs) }
     ensures in_force { IfOk result (λ h. h.in_force ≡ map (λ a. true) h.arcs) }
 {
+    // It tells what the lists of the graph hold.
     g.exact();
     let mut h = g.without_arcs(alloc)?;
     for k in 0..g.arcs() {

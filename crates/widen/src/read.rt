@@ -160,6 +160,7 @@ fn read_rest(
     ensures { (text : List ℕ) → IsBehind p.now (all_readings p.now.events) text lines.now (Said (Some extra) execution None) (length execution + 3) → IsWhole p.now (all_readings p.now.events) execution
         → ReadsWideningOver p.now (all_readings p.now.events) text result }
 {
+    // It tells what the readings of the problem are.
     let _ = p.readings();
     let line = execution.len() + 3;
     if extra.get() == 0 {
@@ -200,6 +201,7 @@ fn read_least(alloc: Global, p: &Problem, extra: Nano, lines: &[u8]) -> Result<W
 fn read_never(alloc: Global, p: &Problem, lines: &[u8]) -> Result<Widening, CertError>
     ensures { (text : List ℕ) → IsBehind p.now (all_readings p.now.events) text lines.now (Said None [] None) 3 → ReadsWideningOver p.now (all_readings p.now.events) text result }
 {
+    // It tells what the readings of the problem are.
     let _ = p.readings();
     match behind(b"cycle", lines) {
         Some(rest) => match read_steps(alloc, p, rest, 4) {

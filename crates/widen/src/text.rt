@@ -14,6 +14,7 @@ use std::alloc::Global;
 pub fn judge_text(alloc: Global, p: &Problem, text: &[u8]) -> Result<Answer, CertError>
     ensures { JudgesText p.now text.now result }
 {
+    // It tells what the readings of the problem are.
     let _readings = p.readings();
     match read_widening(alloc, p, text) {
         Ok(w) => Ok(judge(p, &w)),

@@ -42,6 +42,7 @@ fn judge_run(p: &Problem, extra: Nano, execution: &Execution) -> Answer
     ensures answer { IsAnswer (widened p.now extra) (certs.Run execution.now) result }
     ensures small { IsSmallAnswer result }
 {
+    // It tells that the problem is lawful.
     let _ = p.events();
     match obeys_widened(p, extra, execution) {
         Verdict::Obeys => Answer::Yes,
@@ -96,6 +97,7 @@ pub fn judge(p: &Problem, w: &Widening) -> Answer
     ensures exact { ShowsWidening p.now w.now ↔ (result ≡ answers.Yes) }
     ensures small { IsSmallAnswer result }
 {
+    // It tells that the problem is lawful.
     let _ = p.events();
     match w {
         Widening::Least {

@@ -100,6 +100,7 @@ pub fn write_widening<O: Sink>(p: &Problem, w: &Widening, out: &mut O) -> Result
     requires { IsWideningOf p.now w.now }
     ensures { (readings : List Reading) × AreReadings p.now readings × Writes (widening_text p.now (nodes_of p.now readings) w.now) (O.told out.old) (O.told out.new) result }
 {
+    // It tells what the readings of the problem are.
     let _ = p.readings();
     write_whole(out, b"widening 1\n")?;
     write_lines(p, w, out)?;
