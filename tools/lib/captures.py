@@ -16,9 +16,10 @@ OBSOLETE, SIMPLE, NAMES, STATISTICS, JOURNAL, SECRETS = 2, 3, 4, 5, 9, 10
 COUNTED = (OBSOLETE, SIMPLE, PACKET, JOURNAL)
 UNCOUNTED = (int.from_bytes(SECTION, "big"), INTERFACE, NAMES, STATISTICS, SECRETS)
 CAPTURED_MOST = 262_144
-# Options of pcapng: of an interface its name, its addresses, what its times count and the seconds that are added to them, and of a packet
-# its direction.
+# Options of pcapng: of an interface its name, its addresses, what its times count and the seconds that are added to them, of a packet its
+# direction, and of statistics how many packets the interface and the system dropped; a count of all ones is not known.
 NAME, ADDRESS4, ADDRESS6, RESOLUTION, OFFSET, FLAGS = 2, 4, 5, 9, 14, 2
+BY_INTERFACE, BY_SYSTEM, UNKNOWN = 5, 7, 2**64 - 1
 
 
 @dataclass(slots=True)
@@ -36,13 +37,15 @@ class Packet:
 
 @dataclass
 class Capture:
-    """The packets of a file, the ns that its stamps count in, the addresses of its interfaces where it says so, and what was odd."""
+    """The packets of a file, the ns that its stamps count in, the addresses of its interfaces where it says so, what was odd, and how many
+    packets its statistics count as dropped."""
 
     packets: list[Packet] = field(default_factory=list)
     unit: int = 1
     addresses: set[bytes] = field(default_factory=set)
     interfaces: list[str] = field(default_factory=list)
     odd: list[str] = field(default_factory=list)
+    dropped: int = 0
 
     def resolution(self) -> int:
         """Returns the ns that all stamps are multiples of, at most a second, and at least what the file counts in."""
@@ -94,11 +97,15 @@ class Blocks:
         self.frames, self.is_counted = 0, True
         # (of each interface its link type, and what its stamps count in a second)
         self.interfaces: list[tuple[int, int]] = []
+        # (where the section begins, and what the two counts of each interface of a section came to)
+        self.section = 0
+        self.dropped: dict[tuple[int, int, int], int] = {}
 
     def capture(self) -> Capture:
         while self.at + 12 <= len(self.data):
             if self.data[self.at : self.at + 4] == SECTION:
                 self.order, self.interfaces = ORDERS.get(self.data[self.at + 8 : self.at + 12], self.order), []
+                self.section = self.at
             kind, length = struct.unpack_from(f"{self.order}II", self.data, self.at)
             if length < 12 or length % 4 or self.at + length > len(self.data):
                 self.found.odd.append(f"the block at byte {self.at} is not whole, or malformed")
@@ -109,22 +116,17 @@ class Blocks:
                 self.interface(self.data[self.at : self.at + length - 4])
             elif kind == PACKET and length >= 32:
                 self.packet(self.data[self.at : self.at + length - 4])
+            elif kind == STATISTICS and length >= 24:
+                self.statistics(self.data[self.at : self.at + length - 4])
             self.at += length
-        self.found.unit = self.found.unit or 1000
+        self.found.unit, self.found.dropped = self.found.unit or 1000, sum(self.dropped.values())
         return self.found
 
     def options(self, data: bytes, at: int) -> dict[int, bytes]:
         """Returns the options of a block from this place on, by code; of several with one code the first."""
-        found: dict[int, bytes] = {}
-        while at + 4 <= len(data):
-            code, length = struct.unpack_from(f"{self.order}HH", data, at)
-            if code == 0:
-                break
-            if at + 4 + length > len(data):
-                self.found.odd.append(f"the block at byte {self.at} has an option that is cut")
-                break
-            found.setdefault(code, data[at + 4 : at + 4 + length])
-            at += 4 + (length + 3) // 4 * 4
+        found, is_whole = options_of(self.order, data, at)
+        if not is_whole:
+            self.found.odd.append(f"the block at byte {self.at} has an option that is cut")
         return found
 
     def interface(self, block: bytes) -> None:
@@ -150,3 +152,27 @@ class Blocks:
         stamp = ((high << 32) + low) * 10**9 // per_second + seconds * 10**9
         is_sent, frame = {1: False, 2: True}.get(direction), self.frames if self.is_counted else None
         self.found.packets.append(Packet(stamp, link, block[28 : 28 + captured], is_sent, number, frame))
+
+    def statistics(self, block: bytes) -> None:
+        """Takes how many packets an interface dropped since its section began; nothing of a block that is cut or broken."""
+        number, (options, is_whole) = struct.unpack_from(f"{self.order}I", block, 8)[0], options_of(self.order, block, 20)
+        if number >= len(self.interfaces) or not is_whole:
+            return
+        for code in (BY_INTERFACE, BY_SYSTEM):
+            if len(options.get(code, b"")) == 8:
+                dropped, key = struct.unpack(f"{self.order}Q", options[code])[0], (self.section, number, code)
+                self.dropped[key] = max(dropped if dropped != UNKNOWN else 0, self.dropped.get(key, 0))
+
+
+def options_of(order: str, data: bytes, at: int) -> tuple[dict[int, bytes], bool]:
+    """Returns the options from this place on, by code, of several with one code the first; and whether none is cut."""
+    found: dict[int, bytes] = {}
+    while at + 4 <= len(data):
+        code, length = struct.unpack_from(f"{order}HH", data, at)
+        if code == 0:
+            break
+        if at + 4 + length > len(data):
+            return found, False
+        found.setdefault(code, data[at + 4 : at + 4 + length])
+        at += 4 + (length + 3) // 4 * 4
+    return found, True

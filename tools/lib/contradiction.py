@@ -4,9 +4,11 @@ import os
 import tempfile
 from collections.abc import Iterable
 from datetime import datetime, timezone
+from typing import Any
 
+from captures import Packet
 from chains import told_follow
-from headers import described
+from headers import TCP, decode, described
 from inputs import Input
 from own_program import PROGRAM
 from tracesync.certificates import Step, read_cycle
@@ -17,6 +19,12 @@ from words import count_text, decimal_text, time_text
 
 # The first moment of 2000: what is earlier is no time since 1970, but that of a clock which began with 0.
 SINCE_1970 = 946_684_800 * 10**9
+
+# Where in a packet's key its identification stands.
+IDENTIFICATION = 3
+
+# How many messages of a chain are named.
+NAMED_MOST = 3
 
 # No quartz is off by so many parts per billion.
 QUARTZ_MOST = 1_000_000
@@ -106,17 +114,31 @@ class Contradiction:
             lines.append(f"  {name}: {', '.join(it for it in (self.what(name), stamp) if it)}")
         return ["The events are:", *lines] if any(not it.endswith(": ") for it in lines) else []
 
-    def what(self, name: str) -> str:
+    def entry(self, name: str) -> Any:
+        """Returns the packet or the row that an event is, None where it is not known."""
         label, _, number = name.partition("#")
         contents = [it.content for it in self.inputs.values() if it.label == label] if number.isdigit() else []
         if len(contents) != 1:
-            return ""
+            return None
         of_log = getattr(contents[0], "rows", None)
         entries = of_log if of_log is not None else contents[0].packets
-        if not 0 < int(number) <= len(entries):
+        return entries[int(number) - 1] if 0 < int(number) <= len(entries) else None
+
+    def what(self, name: str) -> str:
+        it = self.entry(name)
+        if it is None:
             return ""
-        it = entries[int(number) - 1]
-        return " ".join(part for part in it[1:] if part) if of_log is not None else described(it)[0]
+        return described(it)[0] if isinstance(it, Packet) else " ".join(part for part in it[1:] if part)
+
+    def messages(self) -> list[tuple[str, str]]:
+        """Returns the send and the receive of each message of the chain, each once."""
+        return list(dict.fromkeys((it.names[0], it.names[1]) for it in self.steps if it.kind.startswith("delay")))
+
+    def bare(self) -> list[tuple[str, str]]:
+        """Returns those messages that are segments of TCP without an identification, as all over IPv6 are."""
+        packets = [(it, self.entry(it[0])) for it in self.messages()]
+        found = [(it, decode(packet.link, packet.data)[0]) for it, packet in packets if isinstance(packet, Packet)]
+        return [it for it, headers in found if headers and headers.protocol == TCP and headers.key and not headers.key[IDENTIFICATION]]
 
     def cures(self, lack: int) -> list[str]:
         """Returns how much each kind of bound would have to be wider to mend this chain alone."""
@@ -141,8 +163,16 @@ class Contradiction:
                 # (no delay is below 0)
                 continue
             lines.append(f"  the message from {it.names[0]} to {it.names[1]}, if it took {time_text(lack, 1)} {kind} delay")
-        causes = "files or addresses that were exchanged, a clock that was set, one key for two messages"
-        return ["Any one of these would mend this chain (there may be others):", *lines, f"Or it is something else: {causes}."]
+        causes = ["files or addresses that were exchanged", "a clock that was set", *self.key_causes()]
+        return ["Any one of these would mend this chain (there may be others):", *lines, f"Or it is something else: {', '.join(causes)}."]
+
+    def key_causes(self) -> list[str]:
+        """Returns what may be wrong with the messages of the chain."""
+        if not self.messages():
+            return []
+        kinds = {it.label: it.kind for it in self.inputs.values()}
+        of_logs = all(kinds.get(name.partition("#")[0]) == "log" for it in self.messages() for name in it)
+        return ["one key for two messages"] if of_logs else ["packets that a capture lost", "one key for two messages"]
 
 
 def widening_lines(problem_lines: list[str], program: str | None = PROGRAM) -> list[str]:
@@ -167,3 +197,11 @@ def told_cycle(lines: list[str], problem_lines: list[str] | None = None, inputs:
     problem = read_problem(problem_lines) if problem_lines else None
     found = Contradiction(read_cycle(lines) or [], problem, inputs).lines()
     return found + (widening_lines(problem_lines, program) if problem_lines else [])
+
+
+def told_keys(lines: list[str], inputs: dict[int, Input], declaration: str) -> list[str]:
+    """Returns what to write into a declaration where messages of a contradiction may be two segments with one key."""
+    found = Contradiction(read_cycle(lines) or [], inputs=inputs).bare()
+    shown = ", ".join(f"{send} to {receive}" for send, receive in found[:NAMED_MOST]) + (", .." if len(found) > NAMED_MOST else "")
+    told = "A segment of TCP without an identification, as over IPv6, may have the key of one that was sent again, and where a capture lost packets the two become one message"
+    return [f"{told}. So may {shown}: write tcp_options = true at the top of {declaration}."] if found else []

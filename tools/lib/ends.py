@@ -170,6 +170,12 @@ def ends_of(captures: Iterable[Input]) -> Ends:
     return find_ends(list(seen.values()))
 
 
+def declared_own(declared: dict[str, Any]) -> dict[str, set[bytes]]:
+    """Returns the addresses that are declared as each host's."""
+    hosts = declared.get("hosts", {}).items()
+    return {host: {ip_address(text).packed for text in (*table.get("addresses", []), *table.get("addresses6", []))} for host, table in hosts}
+
+
 def exchanged(captures: Iterable[Input], declared: dict[str, Any]) -> list[str]:
     """Returns, in words, each declared address that the captures show to be another host's; inputs have their hosts."""
     found = ends_of(captures)

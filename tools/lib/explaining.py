@@ -1,12 +1,13 @@
 """Tells what a session prints, reply by reply."""
 
 import json
-from dataclasses import dataclass, replace
+from dataclasses import dataclass
 from typing import Any
 
-from contradiction import stamp_text, told_cycle
+from contradiction import stamp_text, told_cycle, told_keys
 from ends import exchanged
-from inputs import Input, open_input
+from inputs import Input, open_input, with_hosts
+from losses import told_losses
 from own_program import PROGRAM, RecordedSession
 from texts import plain
 from tracesync.certificates import read_cycle
@@ -50,21 +51,22 @@ class Explainer:
         try:
             found = self.words(words, reply, asked, line)
             if words[0] == "added" and len(asked) == 3:
-                self.take(asked, words)
+                found += self.take(asked, words)
         except (ValueError, LookupError, AttributeError, TypeError):
             # (a text of another program, or of an older one, may begin like a reply)
             found = ["no reply of a session"]
         return Told(line, reply[0], [plain(it) for it in found], words[0] == "refused")
 
-    def take(self, asked: list[str], words: list[str]) -> None:
-        """Remembers what was added."""
+    def take(self, asked: list[str], words: list[str]) -> list[str]:
+        """Remembers what was added, and returns what is to be said of packets that its file counts as dropped."""
         label, path = asked[1:]
         self.problem = None
         self.refusals.take(label, path, int(words[2]))
         try:
-            self.inputs[len(self.inputs)] = open_input(Input(label, label, path))
+            found = self.inputs[len(self.inputs)] = open_input(Input(label, label, path))
         except (OSError, ValueError):
-            pass
+            return []
+        return told_losses(label, found.content.dropped) if found.kind == "capture" else []
 
     def words(self, words: list[str], reply: list[str], asked: list[str], line: str) -> list[str]:
         """Returns the words for a reply, as lines."""
@@ -152,9 +154,9 @@ class Explainer:
 
     def told_cycle(self, lines: list[str], problem: list[str] | None, inputs: dict[int, Input]) -> list[str]:
         """Returns a contradiction in words, as lines."""
-        labels = self.declared.get("labels", {})
-        captures = [replace(it, host=labels.get(it.label, {}).get("host", it.host)) for it in inputs.values() if it.kind == "capture"]
-        return told_cycle(lines, problem, inputs, self.program) + exchanged(captures, self.declared)
+        captures = with_hosts((it for it in inputs.values() if it.kind == "capture"), self.declared)
+        keys = told_keys(lines, inputs, self.path) if self.path and self.declared and not self.declared.get("tcp_options") else []
+        return told_cycle(lines, problem, inputs, self.program) + keys + exchanged(captures, self.declared)
 
     def told_end(self, lines: list[str]) -> list[str]:
         """Returns what the last line of a run says that is no reply."""

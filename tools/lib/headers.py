@@ -22,7 +22,8 @@ PROTOCOLS = {1: "ICMP", 2: "IGMP", 58: "ICMPv6", 50: "ESP", 47: "GRE", 89: "OSPF
 
 @dataclass(slots=True)
 class Headers:
-    """The addresses of a packet of IP as numbers of 4 or 16 bytes; the ports, the key and the payload of one of TCP or UDP."""
+    """The addresses of a packet of IP as numbers of 4 or 16 bytes; the ports, the key and the payload of one of TCP or UDP; of TCP what its
+    header says."""
 
     version: int
     source: bytes
@@ -34,6 +35,8 @@ class Headers:
     # How many bytes of the payload were there to be captured.
     payload_length: int = 0
     flags: int = 0
+    sequence: int = 0
+    acknowledged: int = 0
 
 
 def frame(link: int, data: bytes) -> tuple[int, bytes, bool | None]:
@@ -81,7 +84,7 @@ def transport(found: Headers, data: bytes, length: int, ident: int | None) -> He
         found.key = (found.source, found.target, UDP, ident, one, other, 0, 0, 0, size, b"")
     elif found.protocol == TCP and len(data) >= 20:
         one, other, sequence, acknowledged = struct.unpack_from(">HHII", data)
-        found.ports = (one, other)
+        found.ports, found.sequence, found.acknowledged = (one, other), sequence, acknowledged
         head, found.flags = 4 * (data[12] >> 4), data[13]
         found.payload, found.payload_length = data[head:], max(length - head, 0)
         told = telling(data[20:head])

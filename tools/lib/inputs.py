@@ -1,7 +1,8 @@
 """The files that a tool was given: which trace of which host each one is, and what is in it."""
 
 import os
-from dataclasses import dataclass
+from collections.abc import Iterable
+from dataclasses import dataclass, replace
 from typing import Any
 
 from captures import read_capture
@@ -66,3 +67,9 @@ def checked(found: list[Input]) -> list[Input]:
             if one.label == other.label and (one.host, one.kind) != (other.host, other.kind):
                 raise ValueError(f"the files of {one.label} are of two hosts, or some are captures and some logs")
     return found
+
+
+def with_hosts(found: Iterable[Input], declared: dict[str, Any]) -> list[Input]:
+    """Returns the inputs with the hosts that a declaration gives to their labels."""
+    labels = declared.get("labels", {})
+    return [replace(it, host=labels.get(it.label, {}).get("host", it.host)) for it in found]

@@ -13,11 +13,13 @@ from chain_picture import chain_svg
 from charts import delay_chart, offset_chart
 from chrony import read_all_chrony
 from declaring import Declaring
+from ends import declared_own
 from event_count import LOOK_MOST, LOOK_TIME, count_events
 from explaining import Explainer
 from files import read_own, write_own
 from gathering import Gathering
-from inputs import Input
+from inputs import Input, with_hosts
+from losses import loss_lines
 from own_program import BUILT, PROGRAM, Look, RecordedSession
 from page import page
 from progress import Progress
@@ -157,6 +159,7 @@ class Making:
         refused = [(f"add {it.label} {it.path}", reply.split(" ")) for it, reply in found.added if reply.startswith("refused ")]
         for line, words in refused:
             self.say(f"{' '.join(words)}: {explainer.refusals.told(line, words[1:])}.")
+        self.say(*loss_lines(with_hosts((it for it, _ in found.added), self.declared()), declared_own(self.declared())))
         if found.cycle:
             self.say("The declaration is contradicted, so there is no timeline.", *explainer.told_cycle(found.cycle, found.problem, self.inputs_text(found)))
             text = chain_svg(read_cycle(found.cycle) or [], read_problem(found.problem))

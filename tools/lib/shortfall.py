@@ -2,10 +2,10 @@
 
 from collections import Counter, defaultdict
 from collections.abc import Collection, Iterable
-from ipaddress import ip_address
 from shlex import quote
 from typing import Any
 
+from ends import declared_own
 from headers import COOKED, COOKED2, TCP, Headers, Key, address_text, decode, end_text
 from inputs import Input
 from texts import plain
@@ -91,8 +91,7 @@ class Shortfall:
         """Returns which addresses the packets have that are neither to nor from their host, with the words for the declaration."""
         lines = []
         for host in self.hosts if self.report["nokey"].get("side", 0) else []:
-            table = self.declared.get("hosts", {}).get(host, {})
-            own = {ip_address(text).packed for text in (*table.get("addresses", []), *table.get("addresses6", []))}
+            own = declared_own(self.declared).get(host, set())
             rest: Counter[bytes] = Counter()
             for (source, target), count in self.ways[host].items():
                 if (source in own) == (target in own):

@@ -24,8 +24,9 @@ def udp(source: str, target: str, ports: tuple[int, int] = (5000, 6000), payload
     return ip(source, target, 17, struct.pack(">HHHH", *ports, 8 + len(payload), 0) + payload, ident)
 
 
-def tcp(source: str, target: str, ports: tuple[int, int] = (5000, 80), sequence: int = 1, flags: int = 0x10, payload: bytes = b"", ident: int = 1) -> bytes:
-    return ip(source, target, 6, struct.pack(">HHIIBBHHH", *ports, sequence, 1, 0x50, flags, 1000, 0, 0) + payload, ident)
+def tcp(source: str, target: str, ports: tuple[int, int] = (5000, 80), sequence: int = 1, flags: int = 0x10, payload: bytes = b"", ident: int = 1,
+        acknowledged: int = 1) -> bytes:  # fmt: skip
+    return ip(source, target, 6, struct.pack(">HHIIBBHHH", *ports, sequence, acknowledged, 0x50, flags, 1000, 0, 0) + payload, ident)
 
 
 def framed(link: int, datagram: bytes, is_sent: bool | None = True, tags: Iterable[int] = ()) -> bytes:
@@ -54,6 +55,12 @@ def option(code: int, value: bytes, order: str = "<") -> bytes:
 def block(kind: int, body: bytes, order: str = "<") -> bytes:
     length = 12 + len(body)
     return struct.pack(f"{order}II", kind, length) + body + struct.pack(f"{order}I", length)
+
+
+def statistics(counts: dict[int, int], interface: int = 0, order: str = "<") -> bytes:
+    """Returns a block of statistics with these options, each a count."""
+    options = b"".join(option(code, struct.pack(f"{order}Q", count), order) for code, count in counts.items())
+    return block(5, struct.pack(f"{order}III", interface, 0, 0) + options + option(0, b"", order), order)
 
 
 def pcapng(packets: Iterable[tuple[int, bytes]], link: int = ETHERNET, resolution: int = 9, order: str = "<", options: bytes = b"",
