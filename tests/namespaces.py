@@ -1,0 +1,338 @@
+#!/usr/bin/env python3
+"""Captures real traffic between two network namespaces, and compares the program's answers with what is true there.
+
+    tests/namespaces.py [--seeds N] [--quick]
+
+Each of N seeds, 10 if it is not said and 2 with --quick, has four cases: captures of all packets; 2 % of the frames
+lost on the way; some doubled and overtaken; and 10 % of the records dropped from each capture, of a way that loses,
+doubles and reorders too. Connections of TCP and datagrams of UDP go both ways, over IPv4 and IPv6. A session over each
+two captures is declared with and without `tcp_options`.
+
+What is true: one kernel clock stamps both captures, and support/network.py knows which record is a copy of which
+packet. Then the stamps of `b` are moved by hours, and by a rate within the declared one; the program is not told.
+
+What is wanted: no message joins a send with the receive of another packet, captures are no contradiction, and the
+interval from a send to each receive of it has the real time between them. With `tcp_options`, and 2 % lost on the way,
+99 % of the TCP segments over IPv6 of which each capture has a copy are messages. Two exchanged records and false
+stamps have to be found out, else this test could not fail.
+
+What is assumed: a segment is sent again a tick of its timestamps later, 1 ms, since the box holds each frame longer;
+and datagrams differ in their first eight bytes. Without `tcp_options` segments without an identification, which are
+those over IPv6, and over IPv4 what Linux answers a SYN by, are known by too little: what is wrong of them is counted,
+and no failure.
+
+A seed fixes what is drawn, and not when the kernel does what. It needs root, and `ip` of iproute2; without them a line
+says so, and the status is 0. PROGRAM names the program, else it is the one that is built here. It prints what it
+counted. Where something is wrong it says what, and the status is 1; the captures of a faulty pair stay in tests/out/namespaces.
+"""
+
+import argparse
+import json
+import os
+import shutil
+import socket
+import subprocess
+import sys
+import tempfile
+import time
+from collections import Counter
+from collections.abc import Sequence
+from concurrent.futures import Future, ThreadPoolExecutor
+from contextlib import ExitStack
+from dataclasses import dataclass, field, replace
+from random import Random
+
+from support.captures import classic
+from support.network import ADDRESSES, HOSTS, QUIET, Network, Record, Shares
+from support.problems import UNITS, Problem, units_of
+from support.program import LEFT, program, write
+from support.replies import answered
+
+# How long a socket waits, in seconds.
+PATIENCE = 30
+# What the clock of `b` may be off, in ns and in parts per billion.
+MOST_OFFSET, MOST_RATE = 4 * 3600 * 10**9, 40_000
+# How wrong a stamp is that has to be found out, in ns.
+WRONG = 10 * 10**9
+# Of the segments that can be messages, how many are.
+LEAST_FOUND = 0.99
+# As many as conversations have ends.
+THREADS = 18
+HOST = """
+[hosts.{0}]
+short = 50_000
+long = 50_003
+early = 0
+late = 2
+addresses = ["10.9.0.{1}"]
+addresses6 = ["fd00:0:0:0:0:0:0:{1}"]
+[labels.{0}]
+host = "{0}"
+kind = "capture"
+"""
+LINK = '[[links]]\nfrom = "{}"\nto = "{}"\nleast = 1\n'
+OVER_IPV6, BARE = "TCP over IPv6", "TCP over IPv4 without an identification"
+# What is known by too little without `tcp_options`.
+ASSUMED = (OVER_IPV6, BARE)
+COUNTS = ("packets", "possible", "messages", "false", "ambiguous")
+
+Captures = dict[str, list[Record]]  # by host
+Turns = Sequence[tuple[int, int]]  # how many bytes are asked, and how many are answered
+
+
+@dataclass(frozen=True)
+class Case:
+    """What happens on the way, and which share of its records each capture drops."""
+
+    name: str
+    shares: Shares
+    dropped: float = 0
+
+
+CASES = [
+    Case("whole", Shares()),
+    Case("loss", Shares(lost=0.02)),
+    Case("doubled and overtaken", Shares(doubled=0.03, overtaken=0.05)),
+    Case("dropped records", Shares(lost=0.02, doubled=0.01, overtaken=0.02), 0.1),
+]
+
+
+@dataclass
+class Found:
+    """What the sessions of a case came to: by the kind of packet, but for contradictions and wrong intervals."""
+
+    packets: Counter[str] = field(default_factory=Counter)
+    possible: Counter[str] = field(default_factory=Counter)
+    messages: Counter[str] = field(default_factory=Counter)
+    false: Counter[str] = field(default_factory=Counter)
+    ambiguous: Counter[str] = field(default_factory=Counter)
+    contradictions: int = 0
+    outside: int = 0
+
+    def add(self, other: "Found") -> None:
+        for name in COUNTS:
+            getattr(self, name).update(getattr(other, name))
+        self.contradictions += other.contradictions
+        self.outside += other.outside
+
+    def faults(self, has_options: bool) -> list[str]:
+        """What is wrong of a session."""
+        told = [kind for kind in self.false if has_options or kind not in ASSUMED]
+        wrong = [f"{self.false[kind]} false pairs of {kind}" for kind in told]
+        if not self.false:
+            wrong += ["a contradiction"] * self.contradictions
+            wrong += [f"{self.outside} intervals beside the truth"] * (self.outside > 0)
+        return wrong
+
+
+def serve(listener: socket.socket, turns: Turns) -> None:
+    """Answers each question of a connection by so many bytes."""
+    with listener, listener.accept()[0] as connection:
+        connection.settimeout(PATIENCE)
+        for question, answer in turns:
+            receive(connection, question)
+            connection.sendall(bytes(answer))
+
+
+def ask(connection: socket.socket, address: tuple[str, int], turns: Turns) -> None:
+    """Asks each question of so many bytes, and reads the answer."""
+    with connection:
+        connection.connect(address)
+        for question, answer in turns:
+            connection.sendall(bytes(question))
+            receive(connection, answer)
+
+
+def receive(connection: socket.socket, count: int) -> None:
+    """Reads so many bytes. Raises ConnectionError where they do not come."""
+    while count:
+        part = len(connection.recv(min(count, 65_536)))
+        if not part:
+            raise ConnectionError("a connection ended early")
+        count -= part
+
+
+def throw(ends: Sequence[socket.socket], draw: Random) -> None:
+    """Sends datagrams from both ends, each with other first bytes."""
+    with ends[0], ends[1]:
+        for _ in range(120):
+            draw.choice(ends).send(draw.randbytes(8) + bytes(draw.randrange(40)))
+            time.sleep(draw.random() * 0.003)
+
+
+def bound(network: Network, host: str, family: int, kind: int) -> tuple[socket.socket, tuple[str, int]]:
+    """A socket of a host, and its address."""
+    with network.within(network.spaces[host]):
+        found = socket.socket(family, kind)
+    found.settimeout(PATIENCE)
+    found.bind((ADDRESSES[family][host], 0))
+    return found, found.getsockname()[:2]
+
+
+def talk(pool: ThreadPoolExecutor, network: Network, draw: Random) -> list[Future[None]]:
+    """Begins all conversations: over both families a connection each way that carries much and one that takes many
+    turns, and datagrams."""
+    begun = []
+    for family in ADDRESSES:
+        for host, other in (HOSTS, HOSTS[::-1]):
+            much = [(draw.randrange(60_000, 90_000), 1)]
+            many = [(draw.randrange(1, 600), draw.randrange(1, 5000)) for _ in range(20)]
+            for turns in (much, many):
+                listener, address = bound(network, other, family, socket.SOCK_STREAM)
+                listener.listen()
+                connection, _ = bound(network, host, family, socket.SOCK_STREAM)
+                begun += [pool.submit(serve, listener, turns), pool.submit(ask, connection, address, turns)]
+        (one, here), (two, there) = (bound(network, host, family, socket.SOCK_DGRAM) for host in HOSTS)
+        one.connect(there)
+        two.connect(here)
+        begun.append(pool.submit(throw, (one, two), Random(draw.random())))
+    return begun
+
+
+def captured(network: Network, case: Case, draw: Random) -> Captures:
+    """What both hosts capture while they talk, from before the first packet until behind the last one."""
+    with ThreadPoolExecutor(THREADS) as pool:
+        begun = talk(pool, network, draw)
+        last = time.monotonic()
+        while time.monotonic() < last + QUIET:
+            if network.pass_on(case.shares, draw, 0.01) or not all(it.done() for it in begun):
+                last = time.monotonic()
+        for it in begun:
+            it.result()  # (which raises what went wrong)
+    taken = network.taken()
+    first = taken["b"][0].time
+    offset, rate = draw.randint(-MOST_OFFSET, MOST_OFFSET), draw.randint(-MOST_RATE, MOST_RATE)
+    taken["b"] = [replace(it, stamp=it.time + offset + (it.time - first) * rate // 10**9) for it in taken["b"]]
+    return {host: [it for it in taken[host] if draw.random() >= case.dropped] for host in HOSTS}
+
+
+def kind_of(frame: bytes) -> str:
+    """The protocols of a frame; of one that is no message, an empty text."""
+    place, family = {b"\x08\x00": (23, "IPv4"), b"\x86\xdd": (20, "IPv6")}.get(frame[12:14], (0, ""))
+    protocol = {6: "TCP", 17: "UDP"}.get(frame[place]) if family else None
+    if (protocol, family, frame[18:20]) == ("TCP", "IPv4", bytes(2)):
+        return BARE
+    return f"{protocol} over {family}" if protocol else ""
+
+
+def declaration(has_options: bool) -> str:
+    """What is declared."""
+    hosts = "".join(HOST.format(host, number) for number, host in enumerate(HOSTS, 1))
+    links = LINK.format(*HOSTS) + LINK.format(*HOSTS[::-1])
+    return f"payload_bytes = 8\ntcp_options = {str(has_options).lower()}\n{hosts}{links}"
+
+
+def true_pairs(captures: Captures) -> list[tuple[str, str]]:
+    """The sends and receives that are of one packet."""
+    sends = {it.packet: f"{host}#{n}" for host in HOSTS for n, it in enumerate(captures[host], 1) if it.is_send}
+    receives = [(it, f"{host}#{n}") for host in HOSTS for n, it in enumerate(captures[host], 1) if not it.is_send]
+    return [(sends[it.packet], name) for it, name in receives if it.packet in sends]
+
+
+def judge(folder: str, captures: Captures, has_options: bool) -> Found:
+    """What a session over the captures comes to, beside what is true of them."""
+    found = Found()
+    records = {f"{host}#{n}": it for host in HOSTS for n, it in enumerate(captures[host], 1)}
+    kinds = {name: kind_of(it.frame) for name, it in records.items()}
+    pairs = [it for it in true_pairs(captures) if kinds[it[0]]]
+    path = write(f"{folder}/hosts.toml", declaration(has_options))
+    for host in HOSTS:
+        write(f"{folder}/{host}.pcap", classic((it.stamp, it.frame) for it in captures[host]))
+    adds = [f"add {host} {folder}/{host}.pcap" for host in HOSTS]
+    asked = [f"interval {send} {receive}" for send, receive in pairs]
+    _, added, problem, report, *intervals = answered(path, [*adds, "problem", "report", *asked])
+    found.packets.update(kinds.values())
+    # (each packet once, of which the other capture has one copy at least)
+    found.possible.update(kinds[send] for send in {send for send, _ in pairs})
+    for send, receive in Problem(problem).messages:
+        found.messages[kinds[send]] += 1
+        if records[send].packet != records[receive].packet:
+            found.false[kinds[send]] += 1
+    for it in json.loads(report[0])["ambiguous"]:
+        found.ambiguous.update(kinds[name] for name in it["sends"] + it["receives"])
+    found.contradictions = int(not added[0].endswith(" consistent"))
+    truths = [records[receive].time - records[send].time for send, receive in pairs]
+    found.outside = 0 if found.contradictions else sum(map(is_outside, intervals, truths))
+    return found
+
+
+def is_outside(reply: Sequence[str], truth: int) -> bool:
+    """Whether an interval has not this number of ns."""
+    _, least, greatest = reply[0].split(" ")
+    is_below = least != "-inf" and truth * UNITS < units_of(least)
+    return is_below or (greatest != "+inf" and units_of(greatest) < truth * UNITS)
+
+
+def missed(folder: str, captures: Captures) -> list[str]:
+    """Wants two exchanged records, and a stamp that is wrong either way, to be found out; says what is not."""
+
+    def judged(*changes: tuple[int, Record]) -> Found:
+        changed = list(captures["b"])
+        for n, it in changes:
+            changed[n] = it
+        return judge(folder, {**captures, "b": changed}, True)
+
+    at = [n for n, it in enumerate(captures["b"]) if kind_of(it.frame) == "TCP over IPv4" and not it.is_send][:2]
+    one, two = (captures["b"][n] for n in at)
+    exchanged = judged((at[0], replace(one, frame=two.frame)), (at[1], replace(two, frame=one.frame)))
+    early, late = (judged((at[0], replace(one, stamp=one.stamp + it))) for it in (-WRONG, WRONG))
+    found = [("exchanged records", exchanged.false.total() == 2), ("a stamp before its send", early.contradictions > 0)]
+    found.append(("a stamp that is too late", late.outside > 0))
+    return [f"not found out: {what}" for what, is_found in found if not is_found]
+
+
+def show(case: Case, has_options: bool, found: Found) -> None:
+    """Prints what was counted of a case."""
+    wrong = f"{found.contradictions} contradictions, {found.outside} intervals beside the truth"
+    print(f"{case.name}, {'with' if has_options else 'without'} tcp_options: {wrong}")
+    for kind in sorted(filter(None, found.packets)):
+        print(f"    {kind:40}", *(f"{getattr(found, it)[kind]:6} {it}" for it in COUNTS), flush=True)
+
+
+def run_case(network: Network, folder: str, case: Case, seeds: int) -> list[str]:
+    """Runs a case with all its seeds, and returns what is wrong."""
+    wrong: list[str] = []
+    totals = {True: Found(), False: Found()}
+    for seed in range(1, seeds + 1):
+        captures = captured(network, case, Random(f"{case.name} {seed}"))
+        for has_options, total in totals.items():
+            found = judge(folder, captures, has_options)
+            faults = [f"{case.name}, seed {seed}: {it}" for it in found.faults(has_options)]
+            if faults:
+                shutil.copytree(folder, f"{LEFT}/namespaces/{case.name.replace(' ', '_')}-{seed}", dirs_exist_ok=True)
+            wrong += faults
+            total.add(found)
+        if case is CASES[0] and seed == 1:
+            wrong += missed(folder, captures)
+    for has_options, total in totals.items():
+        show(case, has_options, total)
+    share = totals[True].messages[OVER_IPV6] / max(totals[True].possible[OVER_IPV6], 1)
+    if case.name == "loss" and share < LEAST_FOUND:
+        wrong.append(f"{case.name}: only {share:.2%} of what is possible of {OVER_IPV6} are messages")
+    return wrong
+
+
+def main() -> int:
+    parser = argparse.ArgumentParser(description=__doc__.split("\n\n")[0])
+    parser.add_argument("--seeds", type=int, default=10, metavar="N", help="how many seeds each case has (10)")
+    parser.add_argument("--quick", action="store_true", help="two seeds")
+    said = parser.parse_args()
+    program()  # (it ends the script where there is none)
+    if os.geteuid() or not shutil.which("ip"):
+        print("namespaces: left out, since it needs root and `ip` of iproute2")
+        return 0
+    with ExitStack() as stack:
+        try:
+            network = stack.enter_context(Network())
+        except (OSError, subprocess.CalledProcessError) as why:
+            print(f"namespaces: left out, since there are no namespaces here: {getattr(why, 'stderr', why)}")
+            return 0
+        folder = stack.enter_context(tempfile.TemporaryDirectory())
+        wrong = [it for case in CASES for it in run_case(network, folder, case, 2 if said.quick else said.seeds)]
+    for it in wrong:
+        print(f"namespaces: {it}")
+    return 1 if wrong else 0
+
+
+if __name__ == "__main__":
+    sys.exit(main())
