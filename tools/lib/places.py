@@ -15,6 +15,7 @@ KINDS = (MEMORY, COUNTERS, ARCS, FILES)
 FAILURES, VARIANTS, COUNTING = {"AllocError", "AllocFailed"}, {"Memory", "OutOfMemory"}, {"Steps", "Blank"}
 # The crate of the graph, and the lists of it whose reading takes no step there.
 GRAPH_CRATE, GRAPH_LISTS, GRAPH_READS = "sync_graph", {"arcs", "leaving", "arriving"}, {"get", "entry"}
+ARC_METHODS = {"arc", "parent_arc"}
 # What reads a file of the host.
 FILE_READS = {"read_at", "read_file"}
 HEADS = {"if", "while", "for", "match"}
@@ -330,7 +331,7 @@ class Walk:
         names, end = path_at(trees, at)
         if before == ".":
             is_list = self.crate == GRAPH_CRATE and at > 1 and trees[at - 2] in GRAPH_LISTS and names[0] in GRAPH_READS
-            if (names[0] == "arc" or is_list) and end < len(trees) and is_group(trees[end], "("):
+            if (names[0] in ARC_METHODS or is_list) and end < len(trees) and is_group(trees[end], "("):
                 self.note(ARCS, context, statement)
             if names[0] in self.aliases.reading:
                 self.note(FILES, context, statement)
@@ -343,7 +344,7 @@ class Walk:
         if own[-1] in self.aliases.reading:
             self.note(FILES, context, statement)
         self.named.append((self.place(ARCS, context, statement), own))
-        if len(own) > 1 and (own[-1] == "arc" or own[-2] in ("Arcs", "Lists") and own[-1] in GRAPH_READS):
+        if len(own) > 1 and (own[-1] in ARC_METHODS or own[-2] in ("Arcs", "Lists") and own[-1] in GRAPH_READS):
             self.note(ARCS, context, statement)
         return end
 
