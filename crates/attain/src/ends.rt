@@ -23,7 +23,7 @@ pub fn write_ends<N: Listing, O: Sink>(
     requires events { AreEventNodes (N.listed names.now) rows.now.node q }
     ensures { (text : List ℕ) × IsEndsText (N.listed names.now) rows.now.graph rows.now.node q text × Writes text (O.told out.old) (O.told out.new) result }
 {
-    // It tells what the rows are.
+    // It tells that both rows hold the distances of the node, one from it and one towards it.
     rows.exact();
     write_interval(names, rows, q, out)
 }

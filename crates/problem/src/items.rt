@@ -321,7 +321,7 @@ impl Items {
     }
 }
 
-// The delays of a message are below 2 ^ 62 ns, which a call tells that reads one.
+// The delays of a message are below 2 ^ 62 ns: a call that reads one tells it, so it reads both.
 fn delays_fit(m: &Message)
     ensures { MessageFits m.now }
 {

@@ -9,7 +9,7 @@ use Rattle.queries.specs.Asking.{IsSourceReading}
 use Rattle.queries.specs.Clocks.{KeepsTime}
 use Rattle.queries.specs.Replies.{IsTimeLine, Replies}
 
--- what becomes of the text becomes of one that says so of the two events at these nodes, or of a contradiction
+-- there is a text that says so of the two events at these nodes, or that there is a contradiction, and this becomes of it
 abbrev pub RepliesFor : Listed → SolverLists → ℕ → ℕ → (ProblemLists → ℕ → ℕ → List ℕ → Type 0) → (List ℕ → Type 0) → Type 0
 RepliesFor l s first second Says Becomes = (p : ProblemLists) (i j : ℕ) → IsSolutionBy l p s → IsEventAt l i first → IsEventAt l j second
     → (text : List ℕ) × Replies p (Says p i j) text × Becomes text

@@ -31,7 +31,7 @@ nothing_kept = record { slots = []; source = None; present = true; room = 0; fou
 abbrev pub with_presence : KeptRows → Bool → KeptRows
 with_presence kept present = record { slots = kept.slots; source = kept.source; present = present; room = kept.room; found = kept.found }
 
--- the same slots with another room, and as long a list
+-- the same slots with another room, and the list filled up with zeroes to that length
 abbrev pub with_room : KeptRows → ℕ → KeptRows
 with_room kept room = record { slots = kept.slots; source = kept.source; present = kept.present; room = room; found = kept.found ++ replicate (room - length kept.found) 0 }
 

@@ -31,7 +31,9 @@ pub(crate) fn find_event(names: &Roster, name: &[u8]) -> Option<(EventId, u32)>
 /// Two events, each by its name.
 #[derive(Clone, Copy)]
 pub struct TwoNames<'a> {
+    /// The name of the first one, as the question spells it.
     pub first: &'a [u8],
+    /// The name of the second one.
     pub second: &'a [u8],
 }
 

@@ -53,20 +53,17 @@ pub(crate) fn change<L: Ledger>(
     ensures nothing { events.now ≡ [] → solver.old.earliest.is_solved ≡ true → OnOk result (steps.new ≤ steps.old) }
     ensures steps { OnOk result (TakesFewToAdd (length events.now) solver.old solver.new steps.old steps.new) }
 {
-    // Here and below `decl` tells that the roster is lawful.
+    // `decl` tells, of the roster as it is before and after each change, that it is lawful.
     let alloc = *roster.decl().labels.allocator();
     let withdrawn = messages_of(alloc, roster, &change.withdrawn)?;
     withdraw(alloc, roster, solver, &withdrawn, steps)?;
-    // It tells that the roster is lawful.
     let _ = roster.decl();
     let first = roster.push(label, events)?;
-    // It tells that the roster is lawful.
     let _ = roster.decl();
     let turns = turns_of(alloc, events, first)?;
     let added = messages_of(alloc, roster, &change.added)?;
     let dues = dues_of(alloc, roster, &added, first)?;
     come(roster, solver, &turns, &dues, steps)?;
-    // It tells that the roster is lawful.
     let _ = roster.decl();
     Ok(())
 }

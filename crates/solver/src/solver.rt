@@ -47,7 +47,7 @@ impl Solver {
         ensures rows { result.pool.rows ≡ [] }
         ensures current { IsCurrent result }
     {
-        // It tells what holds of a graph that has grown.
+        // It tells that no values are the earliest execution of a graph without nodes.
         growth();
         let graph = Graph::new(alloc);
         // It tells what the lists of the graph hold.
