@@ -15,6 +15,7 @@ use Rattle.pcap_stream.proofs.Judging as classic_judging
 use Rattle.pcap_stream.proofs.Bounds as classic_bounds
 use Rattle.pcapng_stream.specs.declared.errors.PcapngError.{PcapngError}
 use Rattle.pcapng_stream.specs.declared.errors.PcapngError.TheVariants as pcapng_errors
+use Rattle.pcapng_stream.specs.Blocks.{dropped_in}
 use Rattle.pcapng_stream.specs.Pcapng as pcapng
 use Rattle.pcapng_stream.specs.Feeding.{BlockTail, StandsForBlocks, GrowsBlocks, new_tail, waiting_blocks}
 use Rattle.pcapng_stream.proofs.Streams as blocks
@@ -25,7 +26,7 @@ use Rattle.captures.specs.declared.errors.CaptureError.{CaptureError}
 use Rattle.captures.specs.declared.errors.CaptureError.TheVariants.{Memory}
 use Rattle.captures.specs.declared.kind.Kind.{Kind}
 use Rattle.captures.specs.declared.kind.Kind.TheVariants as kinds
-use Rattle.captures.specs.Formats.{Formatted, Classic, Pcapng, IsPcapng, IsFormatted, IsFault, IsFaultBy, Tail, ClassicTail, PcapngTail, StandsIn, IsNew, classic_fault, formatted_packets, formatted_passed, formatted_rest, kept_in, nothing_formatted, passed_of, pcapng_fault, taken, waiting_of}
+use Rattle.captures.specs.Formats.{Formatted, Classic, Pcapng, IsPcapng, IsFormatted, IsFault, IsFaultBy, Tail, ClassicTail, PcapngTail, StandsIn, IsNew, classic_fault, dropped_of, formatted_dropped, formatted_packets, formatted_passed, formatted_rest, kept_in, nothing_formatted, passed_of, pcapng_fault, taken, waiting_of}
 use Rattle.captures.specs.Kept.{Begins, GoesOn, GrowsIn, IsRefused}
 
 -- ---- the first byte
@@ -174,6 +175,12 @@ stood_passed (ClassicTail t) s (Classic c) stands = refl
 stood_passed (ClassicTail t) s (Pcapng c) stands = absurd stands
 stood_passed (PcapngTail t) s (Classic c) stands = absurd stands
 stood_passed (PcapngTail t) s (Pcapng c) stands = stands.1.passed
+
+pub stood_dropped : (t : Tail) (s : List ℕ) (c : Formatted) → StandsIn t s c → dropped_of t ≡ formatted_dropped c
+stood_dropped (ClassicTail t) s (Classic c) stands = refl
+stood_dropped (ClassicTail t) s (Pcapng c) stands = absurd stands
+stood_dropped (PcapngTail t) s (Classic c) stands = absurd stands
+stood_dropped (PcapngTail t) s (Pcapng c) stands = ap dropped_in stands.1.section
 
 pub stood_waiting : (t : Tail) (s : List ℕ) (c : Formatted) → StandsIn t s c → waiting_of t ≡ length (formatted_rest c)
 stood_waiting (ClassicTail t) s (Classic c) stands = ap (λ (l : List ℕ). length l) stands.1.rest

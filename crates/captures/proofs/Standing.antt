@@ -4,9 +4,9 @@ use Rattle.packets.specs.Packets.{Seen}
 use Rattle.captures.specs.declared.errors.CaptureError.{CaptureError}
 use Rattle.captures.specs.Formats.{Formatted, IsFault, StandsIn}
 use Rattle.captures.specs.Capture.{Capture, Reads, of_format}
-use Rattle.captures.specs.Feeding.{Tail, StandsFor, Grows, taken, passed_of, waiting_of}
+use Rattle.captures.specs.Feeding.{Tail, StandsFor, Grows, taken, dropped_of, passed_of, waiting_of}
 use Rattle.captures.specs.Kept.{GrowsIn}
-use Rattle.captures.proofs.Formats.{stood_passed, stood_read, stood_size, stood_waiting}
+use Rattle.captures.proofs.Formats.{stood_dropped, stood_passed, stood_read, stood_size, stood_waiting}
 
 -- ---- what stands tells
 pub stands_reads : (t : Tail) (s : List ℕ) (c : Capture) → StandsFor t s c → Reads s c
@@ -17,6 +17,9 @@ stands_waiting t s c stands = stood_waiting t s stands.read stands.stands ∙ ap
 
 pub stands_passed : (t : Tail) (s : List ℕ) (c : Capture) → StandsFor t s c → passed_of t ≡ c.passed
 stands_passed t s c stands = stood_passed t s stands.read stands.stands ∙ ap (λ (x : Capture). x.passed) (sym stands.says)
+
+pub stands_dropped : (t : Tail) (s : List ℕ) (c : Capture) → StandsFor t s c → dropped_of t ≡ c.dropped
+stands_dropped t s c stands = stood_dropped t s stands.read stands.stands ∙ ap (λ (x : Capture). x.dropped) (sym stands.says)
 
 pub stands_size : (t : Tail) (s : List ℕ) (c : Capture) → StandsFor t s c → taken t ≡ length s
 stands_size t s c stands = stood_size t s stands.read stands.stands

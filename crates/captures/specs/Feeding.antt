@@ -4,7 +4,7 @@ use Rattle.packets.specs.Streams.{GrowsBy}
 pub use Rattle.packets.specs.declared.packet.Packet.{Packet}
 pub use Rattle.packets.specs.declared.first_packets.FirstPackets.{FirstPackets}
 pub use Rattle.packets.specs.Packets.{seen_packet, seen_packets, KeepsFirst, Adds, IsSame}
-pub use Rattle.captures.specs.Formats.{Tail, IsNew, taken, passed_of, waiting_of}
+pub use Rattle.captures.specs.Formats.{Tail, IsNew, taken, dropped_of, passed_of, waiting_of}
 use Rattle.captures.specs.Formats.{Formatted, StandsIn}
 use Rattle.captures.specs.Capture.{Capture, Seen, of_format}
 

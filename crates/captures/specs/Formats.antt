@@ -1,7 +1,9 @@
 -- The formats of captures. This file alone tells them apart: each definition has a case for each format.
 use Rattle.std.specs.Prelude.{◌≡◌, ◌⊎◌, ℕ, ◌+◌, ◌<◌, List, [], ◌∷◌, length, None, ⊤}
 use Rattle.packets.specs.Packets.{Seen}
+use Rattle.packets.specs.Dropped.{none_dropped}
 use Rattle.packets.specs.Passed.{none_passed}
+use Rattle.packets.specs.declared.dropped.Dropped.{Dropped}
 use Rattle.packets.specs.declared.passed.Passed.{Passed}
 use Rattle.pcap_stream.specs.declared.errors.PcapError.{PcapError}
 use Rattle.pcap_stream.specs.declared.errors.PcapError.TheVariants as classic_errors
@@ -9,6 +11,7 @@ use Rattle.pcap_stream.specs.Capture as classic
 use Rattle.pcap_stream.specs.Feeding as classic_feeding
 use Rattle.pcapng_stream.specs.declared.errors.PcapngError.{PcapngError}
 use Rattle.pcapng_stream.specs.declared.errors.PcapngError.TheVariants as pcapng_errors
+use Rattle.pcapng_stream.specs.Blocks.{dropped_in}
 use Rattle.pcapng_stream.specs.Passed.{passed_over}
 use Rattle.pcapng_stream.specs.Pcapng as pcapng
 use Rattle.pcapng_stream.specs.Feeding.{BlockTail, StandsForBlocks, waiting_blocks}
@@ -46,6 +49,11 @@ formatted_rest (Pcapng c) = c.rest
 abbrev pub formatted_passed : Formatted → Passed
 formatted_passed (Classic c) = none_passed
 formatted_passed (Pcapng c) = passed_over c.blocks
+
+-- how many packets it says were dropped before they were captured; a classic capture tells of none
+abbrev pub formatted_dropped : Formatted → Dropped
+formatted_dropped (Classic c) = none_dropped
+formatted_dropped (Pcapng c) = dropped_in (pcapng.present c)
 
 -- nothing yet
 abbrev pub nothing_formatted : Formatted
@@ -100,6 +108,11 @@ waiting_of (PcapngTail t) = waiting_blocks t
 abbrev pub passed_of : Tail → Passed
 passed_of (ClassicTail t) = none_passed
 passed_of (PcapngTail t) = t.passed
+
+-- how many packets were dropped before they were captured
+abbrev pub dropped_of : Tail → Dropped
+dropped_of (ClassicTail t) = none_dropped
+dropped_of (PcapngTail t) = dropped_in t.section
 
 -- how many bytes of the stream came
 abbrev pub taken : Tail → ℕ

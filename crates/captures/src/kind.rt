@@ -2,11 +2,11 @@
 ghost use Rattle.std.specs.Prelude.{◌≡◌, ◌≤◌, ◌<◌, ◌+◌, ◌^◌, [], length, IfOk, IfErr};
 ghost use Rattle.packets.specs.Packets.{Adds};
 ghost use Rattle.pcapng_stream.specs.Feeding.{waiting_blocks};
-ghost use Rattle.captures.specs.Formats.{ClassicTail, PcapngTail, IsFault, IsKept, IsPcapng, classic_fault, kept_in, passed_of, pcapng_fault, taken, waiting_of};
+ghost use Rattle.captures.specs.Formats.{ClassicTail, PcapngTail, IsFault, IsKept, IsPcapng, classic_fault, dropped_of, kept_in, passed_of, pcapng_fault, taken, waiting_of};
 ghost use Rattle.captures.specs.Kept.{Begins, GoesOn, IsRefused};
 
 use crate::CaptureError;
-use packets::{FirstPackets, Passed};
+use packets::{Dropped, FirstPackets, Passed};
 use pcap_stream::{PcapError, PcapStream};
 use pcapng_stream::{BlockStream, PcapngError};
 use std::alloc::Global;
@@ -45,6 +45,17 @@ impl Kind {
             Kind::Unknown => Passed::none(),
             Kind::Classic(_) => Passed::none(),
             Kind::Pcapng(stream) => stream.passed(),
+        }
+    }
+
+    /// How many packets were dropped before they were captured. A classic capture tells of none.
+    pub(crate) fn dropped(&self) -> Dropped
+        ensures { result ≡ dropped_of (kept_in self.now) }
+    {
+        match self {
+            Kind::Unknown => Dropped::none(),
+            Kind::Classic(_) => Dropped::none(),
+            Kind::Pcapng(stream) => stream.dropped(),
         }
     }
 }

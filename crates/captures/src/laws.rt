@@ -3,7 +3,7 @@ ghost use Rattle.std.specs.Prelude.{◌≡◌, ◌≢◌, ◌⊎◌, ◌++◌, [
 ghost use Rattle.captures.specs.declared.errors.CaptureError.{CaptureError};
 ghost use Rattle.captures.specs.declared.errors.CaptureError.TheVariants.{Memory};
 ghost use Rattle.captures.specs.Capture.{Capture, Seen, Reads, IsFault, nothing};
-ghost use Rattle.captures.specs.Feeding.{Tail, StandsFor, IsNew, taken, passed_of, waiting_of};
+ghost use Rattle.captures.specs.Feeding.{Tail, StandsFor, IsNew, taken, dropped_of, passed_of, waiting_of};
 
 /// A law, which does nothing when it runs: a stream stands for one capture at most.
 pub fn captures_are_one()
@@ -45,11 +45,12 @@ pub fn new_stands()
     ensures { (t : Tail) → IsNew t → StandsFor t [] nothing }
 {}
 
-/// A law: what is kept of a stream tells what the stream says, how many of its packets are passed over, how many of its
-/// bytes are pending, and how many came.
+/// A law: what is kept of a stream tells what the stream says, how many of its packets are passed over, how many were
+/// dropped, how many of its bytes are pending, and how many came.
 pub fn kept_streams_are_read()
     ensures reads { (t : Tail) (s : List ℕ) (c : Capture) → StandsFor t s c → Reads s c }
     ensures passed { (t : Tail) (s : List ℕ) (c : Capture) → StandsFor t s c → passed_of t ≡ c.passed }
+    ensures dropped { (t : Tail) (s : List ℕ) (c : Capture) → StandsFor t s c → dropped_of t ≡ c.dropped }
     ensures waiting { (t : Tail) (s : List ℕ) (c : Capture) → StandsFor t s c → waiting_of t ≡ length c.rest }
     ensures size { (t : Tail) (s : List ℕ) (c : Capture) → StandsFor t s c → taken t ≡ length s }
 {}

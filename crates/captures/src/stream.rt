@@ -2,11 +2,11 @@
 ghost use Rattle.std.specs.Prelude.{◌≡◌, ◌≢◌, ◌≤◌, ◌+◌, ◌^◌, ◌++◌, [], ℕ, List, length, IfOk, IfErr, OnErr};
 ghost use Rattle.captures.specs.declared.errors.CaptureError.TheVariants as errors;
 ghost use Rattle.captures.specs.Capture.{Capture, IsFault};
-ghost use Rattle.captures.specs.Feeding.{StandsFor, IsNew, Grows, Adds, IsSame, taken, passed_of, seen_packets, waiting_of};
+ghost use Rattle.captures.specs.Feeding.{StandsFor, IsNew, Grows, Adds, IsSame, taken, dropped_of, passed_of, seen_packets, waiting_of};
 
 use crate::CaptureError;
 use crate::kind::{Kind, read_kind};
-use packets::{FirstPackets, Packet, Passed};
+use packets::{Dropped, FirstPackets, Packet, Passed};
 use std::alloc::Global;
 use std::marker::Model;
 
@@ -56,6 +56,14 @@ impl CaptureStream {
         ensures { result ≡ passed_of self.now }
     {
         self.kind.passed()
+    }
+
+    /// How many packets were dropped before they were captured, as the statistics of a capture in pcapng say: of each
+    /// interface of a section what was told last, in all.
+    pub fn dropped(&self) -> Dropped
+        ensures { result ≡ dropped_of self.now }
+    {
+        self.kind.dropped()
     }
 
     /// Reads the next piece of a capture of at most 2^30 bytes: answers what is then kept of it, and appends the packets

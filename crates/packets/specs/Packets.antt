@@ -3,15 +3,16 @@ use Rattle.std.specs.Prelude.{◌≡◌, ℕ, ◌-◌, ◌<◌, ◌↔◌, List,
 use Rattle.packets.specs.declared.first_packets.FirstPackets.{FirstPackets}
 use Rattle.packets.specs.declared.packet.Packet.{Packet}
 
--- a packet: its stamp in ns, its link type and its bytes
+-- a packet: its stamp in ns, its link type, how many bytes it is said to have had on its link, and those that were captured
 pub record Seen : Type 0 where
   pub stamp : ℕ
   pub link : ℕ
+  pub original_length : ℕ
   pub bytes : List ℕ
 
 -- the packets of the code
 abbrev pub seen_packet : Packet → Seen
-seen_packet p = record { stamp = p.stamp; link = p.link; bytes = p.bytes.items }
+seen_packet p = record { stamp = p.stamp; link = p.link; original_length = p.original_length; bytes = p.bytes.items }
 
 abbrev pub seen_packets : List Packet → List Seen
 seen_packets packets = map seen_packet packets

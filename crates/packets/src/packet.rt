@@ -8,6 +8,9 @@ pub struct Packet {
     pub stamp: Nano,
     /// The link type of its capture, the lower 16 bits of the field.
     pub link: u16,
+    /// How many bytes it had on its link, as its capture says (the original packet length of both formats). Nothing ties
+    /// it to how many were captured.
+    pub original_length: u32,
     /// Its first bytes, as many as were captured.
     pub bytes: Vec<u8>,
 }

@@ -14,8 +14,8 @@ use Rattle.pcap_stream.proofs.Headers.{begins_take, number-take}
 use Rattle.pcap_stream.proofs.Records.{record_long, captured-append}
 
 -- ---- one record
-abbrev pub seen_with : ℕ → ℕ → List ℕ → Seen
-seen_with stamp link bytes = record { stamp = stamp; link = link; bytes = bytes }
+abbrev pub seen_with : ℕ → ℕ → ℕ → List ℕ → Seen
+seen_with stamp link original bytes = record { stamp = stamp; link = link; original_length = original; bytes = bytes }
 
 -- the length that the first 16 bytes say is the one that all say
 pub captured-take : (o : Order) (bytes : List ℕ) → captured_length o (take 16 bytes) ≡ captured_length o bytes
@@ -37,9 +37,15 @@ head_said o bytes head n is said = said ∙ ap (λ (l : List ℕ). number_in o 4
 abbrev stamp_by : Header → List ℕ → ℕ
 stamp_by h head = number_in h.order 4 head * 1000000000 + nanos h.fraction (number_in h.order 4 (drop 4 head))
 
-pub packet_said : (h : Header) (bytes head captured : List ℕ) (stamp : ℕ) → head ≡ take 16 bytes → stamp ≡ number_in h.order 4 head * 1000000000 + nanos h.fraction (number_in h.order 4 (drop 4 head)) →
-    seen_with stamp h.link captured ≡ packet_of h (record { head = take 16 bytes; captured = captured })
-packet_said h bytes head captured stamp is said = ap (λ (n : ℕ). seen_with n h.link captured) (said ∙ ap (λ (l : List ℕ). stamp_by h l) is)
+-- a number behind a place of the head
+number_behind : (o : Order) (bytes head : List ℕ) (n : ℕ) → head ≡ take 16 bytes → n ≡ number_in o 4 (take (length head - 12) (drop 12 head)) → n ≡ number_in o 4 (drop 12 (take 16 bytes))
+number_behind o bytes head n is said = said ∙ ap (λ (l : List ℕ). number_in o 4 l) (take_rest head 12) ∙ ap (λ (l : List ℕ). number_in o 4 (drop 12 l)) is
+
+pub packet_said : (h : Header) (bytes head captured : List ℕ) (stamp original : ℕ) → head ≡ take 16 bytes → stamp ≡ number_in h.order 4 head * 1000000000 + nanos h.fraction (number_in h.order 4 (drop 4 head)) →
+    original ≡ number_in h.order 4 (take (length head - 12) (drop 12 head)) → seen_with stamp h.link original captured ≡ packet_of h (record { head = take 16 bytes; captured = captured })
+packet_said h bytes head captured stamp original is said long =
+    ap (λ (n : ℕ). seen_with n h.link original captured) (said ∙ ap (λ (l : List ℕ). stamp_by h l) is)
+    ∙ ap (λ (n : ℕ). seen_with (stamp_by h (take 16 bytes)) h.link n captured) (number_behind h.order bytes head original is long)
 
 -- the head is whole, and more bytes are to come
 pub part_of : (h : Header) (bytes : List ℕ) (n : ℕ) → (BeginsHeader h bytes → ⊥) → n ≡ captured_length h.order (take 16 bytes) → n ≤ 262144 → length (drop 16 bytes) < n → IsPart h bytes

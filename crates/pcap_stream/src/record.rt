@@ -13,10 +13,12 @@ use std::alloc::Global;
 // How many bytes stand before those that were captured.
 const HEAD_BYTES: usize = 16;
 
-// Where the head says the fraction of a second, and how many bytes were captured.
+// Where the head says the fraction of a second, how many bytes were captured, and how many there were.
 const FRACTION_PLACE: usize = 4;
 
 const CAPTURED_PLACE: usize = 8;
+
+const ORIGINAL_PLACE: usize = 12;
 
 // How many bytes of a packet may be captured.
 const MOST_CAPTURED: u32 = 262_144;
@@ -67,6 +69,7 @@ fn read_record(
     Ok(Some(Packet {
         stamp: stamp_of(header, head),
         link: header.link,
+        original_length: header.order.number(&head[ORIGINAL_PLACE..]),
         bytes,
     }))
 }

@@ -1,11 +1,11 @@
 -- The packets of captures in blocks: their stamps are below 2^62, and none has more than 262,144 bytes.
-use Rattle.std.proofs.Common.{◌≡◌, ◌==◌, ℕ, ◌+◌, ◌<◌, ◌≤◌, ◌^◌, List, [], ◌∷◌, ◌++◌, length, take, drop, Bool, true, false, not, nat_lt, ℤ, pos, negsuc, unsigned_abs, None, All, refl, arith, length-take}
+use Rattle.std.proofs.Common.{◌≡◌, ℕ, ◌<◌, ◌≤◌, ◌^◌, List, [], ◌∷◌, ◌++◌, length, take, drop, Bool, true, false, not, nat_lt, ℤ, pos, negsuc, unsigned_abs, None, All, refl, arith, length-take}
 use Rattle.std.proofs.lemmas.List.Elements.{All-append, All-cons, All-nil}
 use Rattle.packets.proofs.Bounds.{AreShort, IsStamped, both_short}
 use Rattle.pcapng_stream.specs.declared.flaw.Flaw.{Flaw}
 use Rattle.pcapng_stream.specs.declared.flaw.Flaw.TheVariants.{Malformed}
 use Rattle.pcapng_stream.specs.declared.block_kind.BlockKind.{BlockKind}
-use Rattle.pcapng_stream.specs.declared.block_kind.BlockKind.TheVariants.{SectionHeader, InterfaceDescription, EnhancedPacket, Other}
+use Rattle.pcapng_stream.specs.declared.block_kind.BlockKind.TheVariants.{SectionHeader, InterfaceDescription, EnhancedPacket, InterfaceStatistics, Other}
 use Rattle.pcapng_stream.specs.Blocks.{Section, Block, before, captured_length, is_stamp, kind_of, packet_of, packets_by, packets_in, section_behind, stamp_of}
 use Rattle.pcapng_stream.specs.Flaws.{Check, first_flaw, kind_checks, length_checks, packet_checks, refuse}
 use Rattle.pcapng_stream.specs.Pcapng.{AreBlocks, Blocks, Reads, packets_after, packets_of}
@@ -40,6 +40,7 @@ kind_stamped InterfaceDescription s b none = All-nil IsStamped
 kind_stamped EnhancedPacket s b none =
     let last : not (is_stamp (stamp_of s b)) ≡ false = all_sound (length_checks b ++ packet_checks s b) none 5 (refuse false Malformed) (omega arith) in
     All-cons IsStamped (packet_of s b) [] (stamp_small (stamp_of s b) last) (All-nil IsStamped)
+kind_stamped InterfaceStatistics s b none = All-nil IsStamped
 kind_stamped Other s b none = All-nil IsStamped
 
 blocks_stamped : (s : Section) (all : List Block) → AreBlocks s all → All IsStamped (packets_after s all)
@@ -63,6 +64,7 @@ kind_short InterfaceDescription s b none = tt
 kind_short EnhancedPacket s b none =
     let fourth : nat_lt 262144 (captured_length b) ≡ false = all_sound (length_checks b ++ packet_checks s b) none 3 (refuse false Malformed) (omega arith) in
     (taken_short (captured_length b) 262144 (drop 28 b.bytes) (not_above (captured_length b) 262144 fourth), tt)
+kind_short InterfaceStatistics s b none = tt
 kind_short Other s b none = tt
 
 blocks_short : (s : Section) (bs : List Block) → AreBlocks s bs → AreShort (packets_after s bs)

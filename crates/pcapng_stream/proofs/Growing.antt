@@ -4,7 +4,7 @@ use Rattle.std.specs.List.{flat_map}
 use Rattle.packets.specs.Packets.{Seen}
 use Rattle.pcapng_stream.specs.declared.order.Order.{Order}
 use Rattle.pcapng_stream.specs.declared.block_kind.BlockKind.{BlockKind}
-use Rattle.pcapng_stream.specs.declared.block_kind.BlockKind.TheVariants.{SectionHeader, InterfaceDescription, EnhancedPacket, Other}
+use Rattle.pcapng_stream.specs.declared.block_kind.BlockKind.TheVariants.{SectionHeader, InterfaceDescription, EnhancedPacket, InterfaceStatistics, Other}
 use Rattle.pcapng_stream.specs.declared.errors.PcapngError.{PcapngError}
 use Rattle.pcapng_stream.specs.declared.errors.PcapngError.TheVariants.{Magic, Version, Length, Memory}
 use Rattle.pcapng_stream.specs.declared.errors.PcapngError.TheVariants as errors
@@ -29,6 +29,7 @@ behind_by : (k : BlockKind) (s : Section) (b : Block) (o : Order) → s.order �
 behind_by SectionHeader s b o e = (b.order, refl)
 behind_by InterfaceDescription s b o e = (o, e)
 behind_by EnhancedPacket s b o e = (o, e)
+behind_by InterfaceStatistics s b o e = (o, e)
 behind_by Other s b o e = (o, e)
 
 keeps_order : (s : Section) (o : Order) (blocks : List Block) → s.order ≡ Some o → (p : Order) × ((section_after s blocks).order ≡ Some p)

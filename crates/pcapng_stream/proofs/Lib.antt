@@ -1,5 +1,6 @@
 mod Stamps
 mod Walking
+mod Counts
 mod Heads
 mod Rows
 mod Counting

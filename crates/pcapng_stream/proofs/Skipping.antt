@@ -9,7 +9,7 @@ use Rattle.pcapng_stream.specs.declared.head.Head.{Head}
 use Rattle.packets.specs.declared.passed.Passed.{Passed}
 use Rattle.pcapng_stream.specs.declared.skipped.Skipped.{Skipped}
 use Rattle.pcapng_stream.specs.declared.block_kind.BlockKind.{BlockKind}
-use Rattle.pcapng_stream.specs.declared.block_kind.BlockKind.TheVariants.{SectionHeader, InterfaceDescription, EnhancedPacket, Other}
+use Rattle.pcapng_stream.specs.declared.block_kind.BlockKind.TheVariants.{SectionHeader, InterfaceDescription, EnhancedPacket, InterfaceStatistics, Other}
 use Rattle.pcapng_stream.specs.declared.errors.PcapngError.TheVariants as errors
 use Rattle.pcapng_stream.specs.Numbers.{word_at}
 use Rattle.pcapng_stream.specs.Blocks.{Section, Block, before, is_section, kind_at, kind_of, order_of, head_by, head_of, last_length, packets_by, packets_in, section_by, section_behind}
@@ -42,8 +42,24 @@ word_begin o (a ∷ b ∷ d ∷ []) long = absurd (omega (arith, long))
 word_begin Big (a ∷ b ∷ d ∷ e ∷ more) long = refl
 word_begin Little (a ∷ b ∷ d ∷ e ∷ more) long = refl
 
+-- and so does the second
+first_word : (o : Order) (l : List ℕ) → 4 ≤ length l → word_at o 0 (take 8 l) ≡ word_at o 0 l
+first_word o [] long = absurd (omega (arith, long))
+first_word o (a ∷ []) long = absurd (omega (arith, long))
+first_word o (a ∷ b ∷ []) long = absurd (omega (arith, long))
+first_word o (a ∷ b ∷ d ∷ []) long = absurd (omega (arith, long))
+first_word Big (a ∷ b ∷ d ∷ e ∷ more) long = refl
+first_word Little (a ∷ b ∷ d ∷ e ∷ more) long = refl
+
+size_begin : (o : Order) (l : List ℕ) → 12 ≤ length l → word_at o 4 (take 12 l) ≡ word_at o 4 l
+size_begin o [] long = absurd (omega (arith, long))
+size_begin o (a ∷ []) long = absurd (omega (arith, long))
+size_begin o (a ∷ b ∷ []) long = absurd (omega (arith, long))
+size_begin o (a ∷ b ∷ d ∷ []) long = absurd (omega (arith, long))
+size_begin o (a ∷ b ∷ d ∷ e ∷ more) long = let rest : 4 ≤ length more = omega (arith, long) in first_word o more rest
+
 kind_begin : (o : Order) (l : List ℕ) → 12 ≤ length l → kind_at o (take 12 l) ≡ kind_at o l
-kind_begin o l long = rw (begin_is l, word_begin o l long) refl
+kind_begin o l long = rw (begin_is l, word_begin o l long, size_begin o l long) refl
 
 -- ---- what begins as a block that is skipped
 pub record Begun (present : Option Order) (bytes : List ℕ) (b : Skipped) : Type 0 where
@@ -77,6 +93,7 @@ other_kind : (k : BlockKind) → is_read k ≡ false → k ≡ Other
 other_kind SectionHeader e = absurd (cc (e))
 other_kind InterfaceDescription e = absurd (cc (e))
 other_kind EnhancedPacket e = absurd (cc (e))
+other_kind InterfaceStatistics e = absurd (cc (e))
 other_kind Other e = refl
 
 read_section : (o : Order) (l : List ℕ) → is_section l ≡ true → is_read (kind_at o l) ≡ true

@@ -11,11 +11,11 @@ use Rattle.pcapng_stream.specs.Options.{Opt, first_option, has_ended, is_cut, is
 use Rattle.pcapng_stream.specs.Inside.{said_of, said_by, said_first, said_with, stamping_by, stamping_in}
 
 -- ---- what is said
-or_none : (a : Option ℕ) → option_or a None ≡ a
+pub or_none : (a : Option ℕ) → option_or a None ≡ a
 or_none None = refl
 or_none (Some x) = refl
 
-or_joined : (a b c : Option ℕ) → option_or a (option_or b c) ≡ option_or (option_or a b) c
+pub or_joined : (a b c : Option ℕ) → option_or a (option_or b c) ≡ option_or (option_or a b) c
 or_joined None b c = refl
 or_joined (Some x) b c = refl
 
@@ -94,14 +94,14 @@ with_none order said o e =
 abbrev pub Says : Order → Stamping → List ℕ → Option Stamping → Type 0
 Says order said bytes all = (n : ℕ) × (length bytes ≤ n) × (behind_this said (stamping_by order (options_among n order bytes)) ≡ all)
 
-has_byte : (order : Order) (bytes : List ℕ) → has_ended order bytes ≡ false → 1 ≤ length bytes
+pub has_byte : (order : Order) (bytes : List ℕ) → has_ended order bytes ≡ false → 1 ≤ length bytes
 has_byte order bytes e = positive (length bytes) (eqb-false (length bytes) 0 (or_parts _ _ e).0)
   where
     positive : (n : ℕ) → (n ≡ 0 → ⊥) → 1 ≤ n
     positive zero none = absurd (none refl)
     positive (suc n) none = omega arith
 
-has_head : (order : Order) (bytes : List ℕ) → is_cut order bytes ≡ false → 4 ≤ length bytes
+pub has_head : (order : Order) (bytes : List ℕ) → is_cut order bytes ≡ false → 4 ≤ length bytes
 has_head order bytes e = ltb-false (length bytes) 4 ((or_parts _ _ e).0)
 
 -- where the options end, all is said
@@ -121,7 +121,7 @@ cut_none order said bytes all goes cut (suc n, enough, same) = none n order said
         None ≡ behind_this said (stamping_by order (options_among (suc n) order bytes))
     none n order said bytes goes cut = rw (goes, cut) refl
 
-first_of : (n : ℕ) (order : Order) (bytes : List ℕ) → has_ended order bytes ≡ false → is_cut order bytes ≡ false →
+pub first_of : (n : ℕ) (order : Order) (bytes : List ℕ) → has_ended order bytes ≡ false → is_cut order bytes ≡ false →
     options_among (suc n) order bytes ≡ option_map (λ (l : List Opt). first_option order bytes ∷ l) (options_among n order (more_options order bytes))
 first_of n order bytes goes whole = rw (goes, whole) refl
 

@@ -1,16 +1,18 @@
--- A capture of one packet, worked through.
+-- A capture of one packet, and what statistics tell, worked through.
 use Rattle.std.proofs.Common.{◌≡◌, ℕ, true, false, List, [], ◌∷◌, Option, Some, None, ℤ, pos, negsuc, refl, arith}
 use Rattle.packets.specs.Packets.{Seen}
 use Rattle.pcapng_stream.specs.declared.order.Order.TheVariants.{Little}
 use Rattle.pcapng_stream.specs.declared.section.Interface.{Interface}
 use Rattle.pcapng_stream.specs.declared.flaw.Flaw.TheVariants.{Malformed, OtherVersion}
+use Rattle.packets.specs.declared.dropped.Dropped.{Dropped}
+use Rattle.packets.specs.Dropped.{none_dropped}
 use Rattle.packets.specs.declared.passed.Passed.{Passed}
-use Rattle.pcapng_stream.specs.Blocks.{Block, before, interface_of, nanos, section_behind, stamp_on}
+use Rattle.pcapng_stream.specs.Blocks.{Block, before, dropped_in, interface_of, nanos, section_behind, stamp_on}
 use Rattle.pcapng_stream.specs.Flaws.{begins_wrong, flaw_in}
 use Rattle.pcapng_stream.specs.Passed.{passed_over}
 use Rattle.pcapng_stream.specs.declared.skipped.Skipped.{Skipped}
 use Rattle.pcapng_stream.specs.Skipping.{held_of, skipped_in}
-use Rattle.pcapng_stream.specs.Pcapng.{Blocks, AreBlocks, IsBlock, packets_of}
+use Rattle.pcapng_stream.specs.Pcapng.{Blocks, AreBlocks, IsBlock, packets_of, section_after}
 
 abbrev little : List ℕ → Block
 little bytes = record { order = Little; bytes = bytes }
@@ -25,7 +27,7 @@ interface = little (1 ∷ 0 ∷ 0 ∷ 0 ∷ 32 ∷ 0 ∷ 0 ∷ 0 ∷ 101 ∷ 0 �
 
 -- a packet of the one byte 7 at 100 ns
 abbrev packet : Block
-packet = little (6 ∷ 0 ∷ 0 ∷ 0 ∷ 36 ∷ 0 ∷ 0 ∷ 0 ∷ 0 ∷ 0 ∷ 0 ∷ 0 ∷ 0 ∷ 0 ∷ 0 ∷ 0 ∷ 100 ∷ 0 ∷ 0 ∷ 0 ∷ 1 ∷ 0 ∷ 0 ∷ 0 ∷ 1 ∷ 0 ∷ 0 ∷ 0 ∷ 7 ∷ 0 ∷ 0 ∷ 0 ∷ 36 ∷ 0 ∷ 0 ∷ 0 ∷ [])
+packet = little (6 ∷ 0 ∷ 0 ∷ 0 ∷ 36 ∷ 0 ∷ 0 ∷ 0 ∷ 0 ∷ 0 ∷ 0 ∷ 0 ∷ 0 ∷ 0 ∷ 0 ∷ 0 ∷ 100 ∷ 0 ∷ 0 ∷ 0 ∷ 1 ∷ 0 ∷ 0 ∷ 0 ∷ 9 ∷ 0 ∷ 0 ∷ 0 ∷ 7 ∷ 0 ∷ 0 ∷ 0 ∷ 36 ∷ 0 ∷ 0 ∷ 0 ∷ [])
 
 -- an interface of link type 101 whose offset is -1 s, and one whose first option passes its end
 abbrev earlier : Block
@@ -65,6 +67,17 @@ entry = little (9 ∷ 0 ∷ 0 ∷ 0 ∷ 12 ∷ 0 ∷ 0 ∷ 0 ∷ 12 ∷ 0 ∷ 0 
 abbrev names : Block
 names = little (4 ∷ 0 ∷ 0 ∷ 0 ∷ 12 ∷ 0 ∷ 0 ∷ 0 ∷ 12 ∷ 0 ∷ 0 ∷ 0 ∷ [])
 
+-- statistics of the first interface: 3 packets were dropped by it and 2 by the system; later ones, which tell 1 and not the other;
+-- and some whose last option is cut
+abbrev statistics : Block
+statistics = little (5 ∷ 0 ∷ 0 ∷ 0 ∷ 52 ∷ 0 ∷ 0 ∷ 0 ∷ 0 ∷ 0 ∷ 0 ∷ 0 ∷ 0 ∷ 6 ∷ 0 ∷ 0 ∷ 100 ∷ 0 ∷ 0 ∷ 0 ∷ 5 ∷ 0 ∷ 8 ∷ 0 ∷ 3 ∷ 0 ∷ 0 ∷ 0 ∷ 0 ∷ 0 ∷ 0 ∷ 0 ∷ 7 ∷ 0 ∷ 8 ∷ 0 ∷ 2 ∷ 0 ∷ 0 ∷ 0 ∷ 0 ∷ 0 ∷ 0 ∷ 0 ∷ 0 ∷ 0 ∷ 0 ∷ 0 ∷ 52 ∷ 0 ∷ 0 ∷ 0 ∷ [])
+
+abbrev later_statistics : Block
+later_statistics = little (5 ∷ 0 ∷ 0 ∷ 0 ∷ 36 ∷ 0 ∷ 0 ∷ 0 ∷ 0 ∷ 0 ∷ 0 ∷ 0 ∷ 0 ∷ 6 ∷ 0 ∷ 0 ∷ 200 ∷ 0 ∷ 0 ∷ 0 ∷ 5 ∷ 0 ∷ 8 ∷ 0 ∷ 1 ∷ 0 ∷ 0 ∷ 0 ∷ 0 ∷ 0 ∷ 0 ∷ 0 ∷ 36 ∷ 0 ∷ 0 ∷ 0 ∷ [])
+
+abbrev cut_statistics : Block
+cut_statistics = little (5 ∷ 0 ∷ 0 ∷ 0 ∷ 40 ∷ 0 ∷ 0 ∷ 0 ∷ 0 ∷ 0 ∷ 0 ∷ 0 ∷ 0 ∷ 6 ∷ 0 ∷ 0 ∷ 200 ∷ 0 ∷ 0 ∷ 0 ∷ 5 ∷ 0 ∷ 8 ∷ 0 ∷ 9 ∷ 0 ∷ 0 ∷ 0 ∷ 0 ∷ 0 ∷ 0 ∷ 0 ∷ 7 ∷ 0 ∷ 8 ∷ 0 ∷ 40 ∷ 0 ∷ 0 ∷ 0 ∷ [])
+
 abbrev capture : Blocks
 capture = record { blocks = header ∷ interface ∷ packet ∷ []; rest = [] }
 
@@ -80,14 +93,14 @@ packet_is = record { whole = record { said = refl; long = omega arith }; sound =
 pub blocks_are : AreBlocks before (header ∷ interface ∷ packet ∷ [])
 blocks_are = (header_is, (interface_is, (packet_is, tt)))
 
-pub interface_says : ◌≡◌ {A = Option Interface} (interface_of interface) (Some (record { link = 101; resolution = 9; offset = pos 0 }))
+pub interface_says : ◌≡◌ {A = Option Interface} (interface_of interface) (Some (record { link = 101; resolution = 9; offset = pos 0; dropped = none_dropped }))
 interface_says = refl
 
-pub earlier_says : ◌≡◌ {A = Option Interface} (interface_of earlier) (Some (record { link = 101; resolution = 6; offset = negsuc 0 }))
+pub earlier_says : ◌≡◌ {A = Option Interface} (interface_of earlier) (Some (record { link = 101; resolution = 6; offset = negsuc 0; dropped = none_dropped }))
 earlier_says = refl
 
 -- the packet would be 100 us after -1 s there
-pub early_stamp : ◌≡◌ {A = ℤ} (stamp_on (record { link = 101; resolution = 6; offset = negsuc 0 }) packet) (negsuc 999899999)
+pub early_stamp : ◌≡◌ {A = ℤ} (stamp_on (record { link = 101; resolution = 6; offset = negsuc 0; dropped = none_dropped }) packet) (negsuc 999899999)
 early_stamp = refl
 
 pub early_is : flaw_in (section_behind (section_behind before header) earlier) packet ≡ Some Malformed
@@ -96,11 +109,24 @@ early_is = refl
 pub cut_is : flaw_in (section_behind before header) cut_interface ≡ Some Malformed
 cut_is = refl
 
-pub packets_are : ◌≡◌ {A = List Seen} (packets_of capture) (record { stamp = 100; link = 101; bytes = 7 ∷ [] } ∷ [])
+pub packets_are : ◌≡◌ {A = List Seen} (packets_of capture) (record { stamp = 100; link = 101; original_length = 9; bytes = 7 ∷ [] } ∷ [])
 packets_are = refl
 
 pub passed_are : ◌≡◌ {A = Passed} (passed_over (header ∷ simple ∷ interface ∷ entry ∷ names ∷ packet ∷ simple ∷ [])) (record { simple = 2; obsolete = 0; other = 1 })
 passed_are = refl
+
+-- what was told last stands; sections add up; and before its interface nothing is told
+pub told_are : ◌≡◌ {A = Dropped} (dropped_in (section_after before (header ∷ interface ∷ statistics ∷ []))) (record { interface = 3; system = 2 })
+told_are = refl
+
+pub told_last : ◌≡◌ {A = Dropped} (dropped_in (section_after before (header ∷ interface ∷ statistics ∷ packet ∷ later_statistics ∷ cut_statistics ∷ []))) (record { interface = 1; system = 2 })
+told_last = refl
+
+pub told_both : ◌≡◌ {A = Dropped} (dropped_in (section_after before (header ∷ interface ∷ statistics ∷ header ∷ statistics ∷ interface ∷ later_statistics ∷ []))) (record { interface = 4; system = 2 })
+told_both = refl
+
+pub statistics_are : flaw_in (section_behind before header) cut_statistics ≡ None
+statistics_are = refl
 
 -- a packet before its interface
 pub packet_alone : flaw_in (section_behind before header) packet ≡ Some Malformed

@@ -1,27 +1,32 @@
 -- Blocks: what each kind says, and what a section's blocks say of those that follow.
-use Rattle.std.specs.Prelude.{ℕ, ◌+◌, ◌-◌, ◌*◌, ◌/◌, ◌%◌, ◌^◌, Bool, false, ◌==◌, if◌then◌else◌, nat_lt, List, [], ◌∷◌, ◌++◌, length, take, drop, slice_index_or, Option, Some, None, unwrap_or, option_to_list, ℤ, pos, negsuc, ◌+ℤ◌, ◌*ℤ◌, unsigned_abs}
+use Rattle.std.specs.Prelude.{ℕ, zero, suc, ◌+◌, ◌-◌, ◌*◌, ◌/◌, ◌%◌, ◌^◌, Bool, false, ◌==◌, if◌then◌else◌, nat_lt, List, [], ◌∷◌, ◌++◌, length, take, drop, slice_index_or, Option, Some, None, unwrap_or, option_to_list, ℤ, pos, negsuc, ◌+ℤ◌, ◌*ℤ◌, unsigned_abs, sum_by}
 use Rattle.std.specs.Int.{w64, cast_signed}
 use Rattle.std.specs.List.{list_any}
 use Rattle.std.specs.Str.{bytes_eq}
+use Rattle.packets.specs.declared.dropped.Dropped.{Dropped}
+use Rattle.packets.specs.Dropped.{none_dropped, saturated}
 use Rattle.packets.specs.Packets.{Seen}
 use Rattle.pcapng_stream.specs.declared.order.Order.{Order}
 use Rattle.pcapng_stream.specs.declared.order.Order.TheVariants.{Big, Little}
 use Rattle.pcapng_stream.specs.declared.head.Head.{Head}
 use Rattle.pcapng_stream.specs.declared.block_kind.BlockKind.{BlockKind}
-use Rattle.pcapng_stream.specs.declared.block_kind.BlockKind.TheVariants.{SectionHeader, InterfaceDescription, EnhancedPacket, Other}
+use Rattle.pcapng_stream.specs.declared.block_kind.BlockKind.TheVariants.{SectionHeader, InterfaceDescription, EnhancedPacket, InterfaceStatistics, Other}
 use Rattle.pcapng_stream.specs.declared.section.Interface.{Interface}
 use Rattle.pcapng_stream.specs.Numbers.{half_at, word_at}
-use Rattle.pcapng_stream.specs.Options.{Opt, options_in, resolution_in, offset_in, is_wrong_offset}
+use Rattle.pcapng_stream.specs.declared.statistics.Told.{Told}
+use Rattle.pcapng_stream.specs.Options.{Opt, options_in, resolution_in, offset_in, is_wrong_offset, told_by}
 
 -- ---- sections
--- what a section says of the blocks that follow: the order of their bytes, and its interfaces
+-- what a section says of the blocks that follow: the order of their bytes, and its interfaces; and how many packets the
+-- sections before it say were dropped
 pub record Section : Type 0 where
   pub order : Option Order
   pub interfaces : List Interface
+  pub earlier : Dropped
 
 -- before the first section header
 abbrev pub before : Section
-before = record { order = None; interfaces = [] }
+before = record { order = None; interfaces = []; earlier = none_dropped }
 
 -- ---- how a block begins
 -- the type of a section header, which reads alike in both orders
@@ -32,12 +37,17 @@ section_type = 10 ∷ 13 ∷ 13 ∷ 10 ∷ []
 abbrev pub is_section : List ℕ → Bool
 is_section bytes = bytes_eq section_type (take 4 bytes)
 
+-- the kind of statistics of this length: those of more than 2^24 bytes are not read
+abbrev pub statistics_kind : ℕ → BlockKind
+statistics_kind size = if nat_lt (2 ^ 24) size then Other else InterfaceStatistics
+
 -- the kind of the block that begins so in this order, by its type
 abbrev pub kind_at : Order → List ℕ → BlockKind
 kind_at order begin =
     if is_section begin then SectionHeader
     else if word_at order 0 begin == 1 then InterfaceDescription
-    else if word_at order 0 begin == 6 then EnhancedPacket else Other
+    else if word_at order 0 begin == 6 then EnhancedPacket
+    else if word_at order 0 begin == 5 then statistics_kind (word_at order 4 begin) else Other
 
 -- the order in which a section header's magic number reads as it should, if it does in one
 abbrev pub magic_order : List ℕ → Option Order
@@ -92,6 +102,7 @@ interface_with b options = record {
   link = half_at b.order 8 b.bytes;
   resolution = unwrap_or (resolution_in options) 6;
   offset = cast_signed w64 (unwrap_or (offset_in b.order options) 0);
+  dropped = none_dropped;
 }
 
 -- the interface, if it has options of which none is a wrong offset
@@ -103,7 +114,7 @@ interface_by b (Some options) = if list_any is_wrong_offset options then None el
 abbrev pub interface_of : Block → Option Interface
 interface_of b = interface_by b (options_of b)
 
--- of a packet, the number of its interface
+-- of a packet and of statistics, the number of the interface
 abbrev pub interface_number : Block → ℕ
 interface_number b = word_at b.order 8 b.bytes
 
@@ -126,7 +137,7 @@ nanos resolution time = time * 1000000000 / parts_of_second resolution
 
 -- an interface of a section, by its number
 abbrev pub interface_at : Section → ℕ → Interface
-interface_at s n = slice_index_or s.interfaces n (record { link = 0; resolution = 6; offset = pos 0 })
+interface_at s n = slice_index_or s.interfaces n (record { link = 0; resolution = 6; offset = pos 0; dropped = none_dropped })
 
 -- the interface of a packet
 abbrev pub interface_for : Section → Block → Interface
@@ -147,14 +158,45 @@ is_stamp (negsuc n) = false
 
 -- the packet of an enhanced packet block
 abbrev pub packet_of : Section → Block → Seen
-packet_of s b = record { stamp = unsigned_abs (stamp_of s b); link = (interface_for s b).link; bytes = take (captured_length b) (drop 28 b.bytes) }
+packet_of s b = record { stamp = unsigned_abs (stamp_of s b); link = (interface_for s b).link; original_length = word_at b.order 24 b.bytes; bytes = take (captured_length b) (drop 28 b.bytes) }
+
+-- ---- packets that were dropped
+-- the options of statistics, which stand before the last length, if none of them is cut
+abbrev pub statistics_options : Block → Option (List Opt)
+statistics_options b = options_in b.order (take (length b.bytes - 24) (drop 20 b.bytes))
+
+-- what statistics tell; where an option is cut they tell nothing
+abbrev pub told_of : Block → Told
+told_of b = told_by b.order (unwrap_or (statistics_options b) [])
+
+-- how many packets were dropped at an interface, with what is told of it: a count that is told stands for the one before it
+abbrev pub dropped_by : Dropped → Told → Dropped
+dropped_by d told = record { interface = unwrap_or told.interface d.interface; system = unwrap_or told.system d.system }
+
+-- an interface with what is told of it
+abbrev pub interface_told : Told → Interface → Interface
+interface_told told i = record { link = i.link; resolution = i.resolution; offset = i.offset; dropped = dropped_by i.dropped told }
+
+-- interfaces, with what is told of the one of this number; of one that is not there nothing is
+abbrev pub interfaces_told : ℕ → Told → List Interface → List Interface
+interfaces_told n told [] = []
+interfaces_told zero told (i ∷ more) = interface_told told i ∷ more
+interfaces_told (suc n) told (i ∷ more) = i ∷ interfaces_told n told more
+
+-- how many packets a section and those before it say were dropped: the sums of what was told last of each interface
+abbrev pub dropped_in : Section → Dropped
+dropped_in s = record {
+  interface = saturated (s.earlier.interface + sum_by (λ (i : Interface). i.dropped.interface) s.interfaces);
+  system = saturated (s.earlier.system + sum_by (λ (i : Interface). i.dropped.system) s.interfaces);
+}
 
 -- ---- what a block gives
 -- the section behind a block of this kind
 abbrev pub section_by : BlockKind → Section → Block → Section
-section_by SectionHeader s b = record { order = Some b.order; interfaces = [] }
-section_by InterfaceDescription s b = record { order = s.order; interfaces = s.interfaces ++ option_to_list (interface_of b) }
+section_by SectionHeader s b = record { order = Some b.order; interfaces = []; earlier = dropped_in s }
+section_by InterfaceDescription s b = record { order = s.order; interfaces = s.interfaces ++ option_to_list (interface_of b); earlier = s.earlier }
 section_by EnhancedPacket s b = s
+section_by InterfaceStatistics s b = record { order = s.order; interfaces = interfaces_told (interface_number b) (told_of b) s.interfaces; earlier = s.earlier }
 section_by Other s b = s
 
 -- the section behind a block
@@ -166,6 +208,7 @@ abbrev pub packets_by : BlockKind → Section → Block → List Seen
 packets_by SectionHeader s b = []
 packets_by InterfaceDescription s b = []
 packets_by EnhancedPacket s b = packet_of s b ∷ []
+packets_by InterfaceStatistics s b = []
 packets_by Other s b = []
 
 -- the packets of a block: one, or none

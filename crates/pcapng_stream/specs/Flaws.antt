@@ -5,7 +5,7 @@ use Rattle.pcapng_stream.specs.declared.head.Head.{Head}
 use Rattle.pcapng_stream.specs.declared.flaw.Flaw.{Flaw}
 use Rattle.pcapng_stream.specs.declared.flaw.Flaw.TheVariants.{Malformed, OtherVersion, TooLong}
 use Rattle.pcapng_stream.specs.declared.block_kind.BlockKind.{BlockKind}
-use Rattle.pcapng_stream.specs.declared.block_kind.BlockKind.TheVariants.{SectionHeader, InterfaceDescription, EnhancedPacket, Other}
+use Rattle.pcapng_stream.specs.declared.block_kind.BlockKind.TheVariants.{SectionHeader, InterfaceDescription, EnhancedPacket, InterfaceStatistics, Other}
 use Rattle.pcapng_stream.specs.Numbers.{padded}
 use Rattle.pcapng_stream.specs.Blocks.{Section, Block, is_section, magic_order, head_of, kind_at, kind_of, last_length, major_version, interface_of, interface_number, captured_length, stamp_of, is_stamp}
 
@@ -19,6 +19,7 @@ abbrev pub is_read : BlockKind → Bool
 is_read SectionHeader = true
 is_read InterfaceDescription = true
 is_read EnhancedPacket = true
+is_read InterfaceStatistics = true
 is_read Other = false
 
 -- no block of this kind has this length: it is under 12, no multiple of four, or over 2^24 where the block is read
@@ -54,6 +55,7 @@ abbrev pub least_length : BlockKind → ℕ
 least_length SectionHeader = 28
 least_length InterfaceDescription = 20
 least_length EnhancedPacket = 32
+least_length InterfaceStatistics = 12
 least_length Other = 12
 
 -- what may be wrong with each block
@@ -85,6 +87,7 @@ abbrev pub kind_checks : BlockKind → Section → Block → List Check
 kind_checks SectionHeader s b = refuse (not (major_version b == 1)) OtherVersion ∷ []
 kind_checks InterfaceDescription s b = interface_checks s b
 kind_checks EnhancedPacket s b = packet_checks s b
+kind_checks InterfaceStatistics s b = []
 kind_checks Other s b = []
 
 -- the first flaw of a whole block in this section

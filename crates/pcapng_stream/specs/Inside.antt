@@ -1,5 +1,5 @@
 -- What the parts of a reader promise each other.
-use Rattle.std.specs.Prelude.{◌≡◌, ℕ, ◌+◌, false, true, if◌then◌else◌, List, ◌++◌, length, Option, Some, None, ⊤}
+use Rattle.std.specs.Prelude.{◌≡◌, ℕ, ◌+◌, false, true, if◌then◌else◌, List, ◌++◌, length, Option, Some, None, option_map, ⊤}
 use Rattle.std.specs.Option.{option_or}
 use Rattle.std.specs.List.{flat_map, list_any}
 use Rattle.packets.specs.Packets.{Seen}
@@ -13,7 +13,8 @@ use Rattle.pcapng_stream.specs.declared.block.WholeBlock.{WholeBlock}
 use Rattle.pcapng_stream.specs.declared.section.OpenSection.{OpenSection}
 use Rattle.pcapng_stream.specs.declared.packet.Captured.{Captured}
 use Rattle.pcapng_stream.specs.declared.options.Stamping.{Stamping}
-use Rattle.pcapng_stream.specs.Options.{Opt, options_in, resolution_of, offset_of, resolution_in, offset_in, is_wrong_offset}
+use Rattle.pcapng_stream.specs.declared.statistics.Told.{Told}
+use Rattle.pcapng_stream.specs.Options.{Opt, options_in, resolution_of, offset_of, resolution_in, offset_in, is_wrong_offset, count_by_code, told_by}
 use Rattle.pcapng_stream.specs.Blocks.{Section, Block, bytes_of, section_behind, packets_in}
 use Rattle.pcapng_stream.specs.Flaws.{begins_wrong}
 use Rattle.packets.specs.declared.passed.Passed.{Passed}
@@ -27,7 +28,7 @@ use Rattle.pcapng_stream.specs.Feeding.{BlockTail}
 -- ---- values of the code
 -- the section of the code
 abbrev pub section_of : OpenSection → Section
-section_of s = record { order = s.order; interfaces = s.interfaces.items }
+section_of s = record { order = s.order; interfaces = s.interfaces.items; earlier = s.earlier }
 
 -- the block of the code
 abbrev pub block_of : WholeBlock → Block
@@ -35,7 +36,7 @@ block_of b = record { order = b.order; bytes = b.bytes.now }
 
 -- the packet of the code, before it has bytes of its own
 abbrev pub seen_captured : Captured → Seen
-seen_captured c = record { stamp = c.stamp; link = c.link; bytes = c.bytes.now }
+seen_captured c = record { stamp = c.stamp; link = c.link; original_length = c.original_length; bytes = c.bytes.now }
 
 -- an option of this code and with this value
 abbrev pub option_with : ℕ → List ℕ → Opt
@@ -65,6 +66,18 @@ stamping_by order (Some options) = if list_any is_wrong_offset options then None
 -- what the options in these bytes say, if they are sound
 abbrev pub stamping_in : Order → List ℕ → Option Stamping
 stamping_in order bytes = stamping_by order (options_in order bytes)
+
+-- how many packets one option says were dropped
+abbrev pub told_one : Order → Opt → Told
+told_one order o = record { interface = count_by_code order 5 o; system = count_by_code order 7 o }
+
+-- what was told first, and else what is told then
+abbrev pub told_first : Told → Told → Told
+told_first first later = record { interface = option_or first.interface later.interface; system = option_or first.system later.system }
+
+-- how many packets the options in these bytes say were dropped, if none of them is cut
+abbrev pub told_in : Order → List ℕ → Option Told
+told_in order bytes = option_map (told_by order) (options_in order bytes)
 
 -- why a capture is refused where the block at this place has this flaw
 abbrev pub fault_at : ℕ → Flaw → PcapngError

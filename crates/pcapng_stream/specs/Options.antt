@@ -1,7 +1,8 @@
 -- The options of a block: each is a code and a length of two bytes, and a value that is filled up to a multiple of four.
-use Rattle.std.specs.Prelude.{ℕ, zero, suc, ◌+◌, Bool, not, ◌&&◌, ◌||◌, ◌==◌, if◌then◌else◌, nat_lt, List, [], ◌∷◌, length, take, drop, slice_index, Option, Some, None, option_map}
+use Rattle.std.specs.Prelude.{ℕ, zero, suc, ◌+◌, ◌-◌, ◌^◌, Bool, not, ◌&&◌, ◌||◌, ◌==◌, if◌then◌else◌, nat_lt, List, [], ◌∷◌, length, take, drop, slice_index, Option, Some, None, option_map}
 use Rattle.std.specs.Option.{option_or}
 use Rattle.pcapng_stream.specs.declared.order.Order.{Order}
+use Rattle.pcapng_stream.specs.declared.statistics.Told.{Told}
 use Rattle.pcapng_stream.specs.Numbers.{half_at, double_at, padded}
 
 -- ---- the list of options
@@ -68,3 +69,25 @@ resolution_in (o ∷ more) = option_or (resolution_of o) (resolution_in more)
 abbrev pub offset_in : Order → List Opt → Option ℕ
 offset_in order [] = None
 offset_in order (o ∷ more) = option_or (offset_of order o) (offset_in order more)
+
+-- ---- options of statistics
+-- a count, if it is known: one whose bits are all ones is not
+abbrev pub known : ℕ → Option ℕ
+known n = if n == 2 ^ 64 - 1 then None else Some n
+
+-- the count in the value of an option, if it has eight bytes
+abbrev pub count_of : Order → List ℕ → Option ℕ
+count_of order value = if length value == 8 then known (double_at order 0 value) else None
+
+-- the count of an option of this code
+abbrev pub count_by_code : Order → ℕ → Opt → Option ℕ
+count_by_code order code o = if o.code == code then count_of order o.value else None
+
+-- the count of the first option of this code that has one
+abbrev pub count_in : Order → ℕ → List Opt → Option ℕ
+count_in order code [] = None
+count_in order code (o ∷ more) = option_or (count_by_code order code o) (count_in order code more)
+
+-- how many packets these options say were dropped, by the interface (isb_ifdrop) and by the system (isb_osdrop)
+abbrev pub told_by : Order → List Opt → Told
+told_by order options = record { interface = count_in order 5 options; system = count_in order 7 options }

@@ -1,6 +1,6 @@
 // The kinds of blocks, by their types.
 ghost use Rattle.std.specs.Prelude.{◌≡◌, ◌≤◌, length};
-ghost use Rattle.pcapng_stream.specs.Blocks.{is_section, kind_at};
+ghost use Rattle.pcapng_stream.specs.Blocks.{is_section, kind_at, statistics_kind};
 ghost use Rattle.pcapng_stream.specs.Flaws.{is_read, least_length};
 
 use crate::order::Order;
@@ -13,6 +13,13 @@ const INTERFACE_TYPE: u32 = 1;
 
 const PACKET_TYPE: u32 = 6;
 
+const STATISTICS_TYPE: u32 = 5;
+
+// Where the length of a block stands, and how many bytes of statistics are read.
+const LENGTH_PLACE: usize = 4;
+
+const MOST_STATISTICS: u32 = 1 << 24;
+
 /// The kind of a block.
 #[derive(Clone, Copy, Debug, PartialEq, Eq)]
 pub enum BlockKind {
@@ -22,6 +29,8 @@ pub enum BlockKind {
     InterfaceDescription,
     /// It has a packet.
     EnhancedPacket,
+    /// It tells how many packets were dropped at an interface. It has at most 2^24 bytes: a longer one is `Other`.
+    InterfaceStatistics,
     /// It is skipped.
     Other,
 }
@@ -33,9 +42,20 @@ pub(crate) fn is_section(bytes: &[u8]) -> bool
     bytes.starts_with(&SECTION_TYPE)
 }
 
+// The kind of statistics of this length.
+fn statistics_kind(size: u32) -> BlockKind
+    ensures { result ≡ statistics_kind size }
+{
+    if size > MOST_STATISTICS {
+        BlockKind::Other
+    } else {
+        BlockKind::InterfaceStatistics
+    }
+}
+
 /// The kind of the block that begins so, whose bytes have this order.
 pub(crate) fn kind_at(order: Order, begin: &[u8]) -> BlockKind
-    requires { 4 ≤ length begin.now }
+    requires { 8 ≤ length begin.now }
     ensures { result ≡ kind_at order begin.now }
 {
     if is_section(begin) {
@@ -44,6 +64,7 @@ pub(crate) fn kind_at(order: Order, begin: &[u8]) -> BlockKind
     match order.word_at(begin, 0) {
         INTERFACE_TYPE => BlockKind::InterfaceDescription,
         PACKET_TYPE => BlockKind::EnhancedPacket,
+        STATISTICS_TYPE => statistics_kind(order.word_at(begin, LENGTH_PLACE)),
         _ => BlockKind::Other,
     }
 }
@@ -57,6 +78,7 @@ impl BlockKind {
             BlockKind::SectionHeader => true,
             BlockKind::InterfaceDescription => true,
             BlockKind::EnhancedPacket => true,
+            BlockKind::InterfaceStatistics => true,
             BlockKind::Other => false,
         }
     }
@@ -69,6 +91,7 @@ impl BlockKind {
             BlockKind::SectionHeader => 28,
             BlockKind::InterfaceDescription => 20,
             BlockKind::EnhancedPacket => 32,
+            BlockKind::InterfaceStatistics => 12,
             BlockKind::Other => 12,
         }
     }

@@ -3,6 +3,7 @@ ghost use Rattle.std.specs.Prelude.{◌≡◌, ◌≤◌, ◌<◌, ◌+◌, ◌^
 ghost use Rattle.packets.specs.Packets.{Adds};
 ghost use Rattle.pcapng_stream.specs.declared.errors.PcapngError.TheVariants.{Memory};
 ghost use Rattle.packets.specs.Passed.{passed_count};
+ghost use Rattle.pcapng_stream.specs.Blocks.{dropped_in};
 ghost use Rattle.pcapng_stream.specs.Pcapng.{Blocks, IsFault};
 ghost use Rattle.pcapng_stream.specs.Feeding.{StandsForBlocks, IsBlockTail, GrowsBlocks, new_tail, waiting_blocks};
 ghost use Rattle.pcapng_stream.specs.Inside.{FindsNext, IsHereFault, EndsBlocks, IsBlocksFault, tail_of, section_of};
@@ -16,7 +17,7 @@ use crate::head::begins_section;
 use crate::passed::count_block;
 use crate::section::OpenSection;
 use crate::skipped::{Skipped, held_of, held_with, skipped_in};
-use packets::{FirstPackets, Passed};
+use packets::{Dropped, FirstPackets, Passed};
 use std::alloc::Global;
 use std::marker::Model;
 
@@ -72,8 +73,8 @@ fn read_blocks<'a>(
     Ok(left)
 }
 
-/// A capture in blocks so far: what its section says, how many packets were passed over, and the bytes behind its last
-/// whole block.
+/// A capture in blocks so far: what its section says, how many packets were passed over or dropped, and the bytes behind its
+/// last whole block.
 ///
 /// It keeps no byte of a block that is whole, and of one that is skipped those of its last four alone. A piece may end
 /// anywhere.
@@ -109,6 +110,7 @@ impl BlockStream {
         let section = OpenSection {
             order: None,
             interfaces: Vec::new(alloc),
+            earlier: Dropped::none(),
         };
         BlockStream {
             alloc,
@@ -135,6 +137,14 @@ impl BlockStream {
         ensures { result ≡ self.now.passed }
     {
         self.passed
+    }
+
+    /// How many packets the statistics of interfaces say were dropped: of each interface of a section what was told last,
+    /// in all.
+    pub fn dropped(&self) -> Dropped
+        ensures { result ≡ dropped_in self.now.section }
+    {
+        self.section.dropped()
     }
 
     /// Reads the next piece of a capture of at most 2^30 bytes: answers what then stands of it, and adds the packets of the

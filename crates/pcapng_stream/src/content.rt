@@ -14,7 +14,8 @@ use crate::flaw::Flaw;
 use crate::options::read_options;
 use crate::packet::read_packet;
 use crate::section::{Interface, OpenSection};
-use packets::FirstPackets;
+use crate::statistics::take_statistics;
+use packets::{Dropped, FirstPackets};
 use std::alloc::Global;
 
 // The major version of a section header, and where it stands.
@@ -66,6 +67,7 @@ fn begin_section(
     if block.order.half_at(block.bytes, MAJOR_PLACE) != MAJOR_VERSION {
         return Err(Flaw::OtherVersion.at(place));
     }
+    section.earlier = section.dropped();
     section.order = Some(block.order);
     section.interfaces.clear();
     Ok(())
@@ -87,6 +89,7 @@ fn interface_of(block: &WholeBlock<'_>) -> Option<Interface>
         link: block.order.half_at(block.bytes, LINK_PLACE),
         resolution: said.resolution.unwrap_or(MICROSECONDS),
         offset: said.offset.unwrap_or(0).cast_signed(),
+        dropped: Dropped::none(),
     })
 }
 
@@ -132,7 +135,7 @@ fn add_packet(
 }
 
 /// Takes a whole block, which stands at this place of a capture: a section header begins a section, an interface and a packet
-/// are added, and any other block is skipped. An error comes with its first flaw, or where memory runs out.
+/// are added, statistics tell how many packets were dropped, and any other block is skipped. An error comes with its first flaw, or where memory runs out.
 pub(crate) fn take_block(
     alloc: Global,
     place: u32,
@@ -150,6 +153,10 @@ pub(crate) fn take_block(
         BlockKind::SectionHeader => begin_section(place, block, section),
         BlockKind::InterfaceDescription => add_interface(place, block, section),
         BlockKind::EnhancedPacket => add_packet(alloc, place, block, section, packets),
+        BlockKind::InterfaceStatistics => {
+            take_statistics(block, section);
+            Ok(())
+        }
         BlockKind::Other => Ok(()),
     }
 }

@@ -1,6 +1,6 @@
-// The options of an interface.
+// Options, and those of an interface.
 ghost use Rattle.std.specs.Prelude.{◌≡◌, ◌+◌, ◌≤◌, false, length};
-ghost use Rattle.pcapng_stream.specs.Options.{option_code, option_length, has_ended, is_cut, first_option, is_wrong_offset, resolution_of, offset_of};
+ghost use Rattle.pcapng_stream.specs.Options.{option_code, option_length, has_ended, is_cut, first_option, more_options, is_wrong_offset, resolution_of, offset_of};
 ghost use Rattle.pcapng_stream.specs.Inside.{option_with, said_with, stamping_in};
 
 use crate::bytes::{behind, front, padded};
@@ -39,13 +39,15 @@ fn option_length(order: Order, options: &[u8]) -> usize
     usize::from(order.half_at(options, LENGTH_PLACE))
 }
 
-fn has_ended(order: Order, options: &[u8]) -> bool
+/// Whether the options end here.
+pub(crate) fn has_ended(order: Order, options: &[u8]) -> bool
     ensures { result ≡ has_ended order options.now }
 {
     options.is_empty() || options.len() >= OPTION_HEAD && order.half_at(options, 0) == END_CODE
 }
 
-fn is_cut(order: Order, options: &[u8]) -> bool
+/// Whether the first option is cut.
+pub(crate) fn is_cut(order: Order, options: &[u8]) -> bool
     ensures { result ≡ is_cut order options.now }
 {
     options.len() < OPTION_HEAD || options.len() < OPTION_HEAD + option_length(order, options)
@@ -80,12 +82,20 @@ fn offset_of(order: Order, code: u16, value: &[u8]) -> Option<u64>
     }
 }
 
-// The value of the first option.
-fn first_value(order: Order, options: &[u8]) -> &[u8]
+/// The value of the first option.
+pub(crate) fn first_value(order: Order, options: &[u8]) -> &[u8]
     requires { 4 ≤ length options.now }
     ensures { option_with (option_code order options.now) result.now ≡ first_option order options.now }
 {
     front(behind(options, OPTION_HEAD), option_length(order, options))
+}
+
+/// The options behind the first one.
+pub(crate) fn more_options(order: Order, options: &[u8]) -> &[u8]
+    requires { 4 ≤ length options.now }
+    ensures { result.now ≡ more_options order options.now }
+{
+    behind(options, OPTION_HEAD + padded(option_length(order, options)))
 }
 
 // What is said with the first option, and `None` where that is an offset of another length.
@@ -122,7 +132,7 @@ pub(crate) fn read_options(order: Order, options: &[u8]) -> Option<Stamping>
             return None;
         };
         said = more;
-        left = behind(left, OPTION_HEAD + padded(option_length(order, left)));
+        left = more_options(order, left);
     }
     Some(said)
 }

@@ -22,6 +22,8 @@ const LOW_PLACE: usize = 16;
 
 const CAPTURED_PLACE: usize = 20;
 
+const ORIGINAL_PLACE: usize = 24;
+
 // Where the captured bytes begin.
 const PACKET_PLACE: usize = 28;
 
@@ -64,6 +66,7 @@ fn nanos(resolution: u8, time: u64) -> u128
 pub struct Captured<'a> {
     pub stamp: Nano,
     pub link: u16,
+    pub original_length: u32,
     pub bytes: &'a [u8],
 }
 
@@ -75,6 +78,7 @@ impl Captured<'_> {
         Ok(Packet {
             stamp: self.stamp,
             link: self.link,
+            original_length: self.original_length,
             bytes: Vec::from_slice(alloc, self.bytes)?,
         })
     }
@@ -157,6 +161,7 @@ pub(crate) fn read_packet<'a>(
     Ok(Captured {
         stamp,
         link: interface.link,
+        original_length: block.order.word_at(block.bytes, ORIGINAL_PLACE),
         bytes: front(behind(block.bytes, PACKET_PLACE), captured as usize),
     })
 }

@@ -1,10 +1,13 @@
 // What a section says of the blocks that follow.
 ghost use Rattle.std.specs.Prelude.{◌≡◌, IfOk, IfErr};
 ghost use Rattle.pcapng_stream.specs.declared.errors.PcapngError.TheVariants.{Memory};
+ghost use Rattle.packets.specs.Dropped.{dropped_with};
+ghost use Rattle.pcapng_stream.specs.Blocks.{dropped_in};
 ghost use Rattle.pcapng_stream.specs.Inside.{section_of};
 
 use crate::PcapngError;
 use crate::order::Order;
+use packets::Dropped;
 use std::alloc::Global;
 
 /// An interface on which packets were captured.
@@ -16,6 +19,15 @@ pub struct Interface {
     pub resolution: u8,
     /// What is added to each of their stamps, in seconds.
     pub offset: i64,
+    /// How many packets were dropped at it, as it was told last.
+    pub dropped: Dropped,
+}
+
+// These and those that were dropped at an interface.
+fn with_interface(dropped: Dropped, interface: &Interface) -> Dropped
+    ensures { result ≡ dropped_with dropped interface.now.dropped }
+{
+    dropped.with(interface.dropped)
 }
 
 /// The section that is being read.
@@ -25,6 +37,8 @@ pub struct OpenSection {
     pub order: Option<Order>,
     /// Its interfaces, by their numbers.
     pub interfaces: Vec<Interface>,
+    /// How many packets the sections before it say were dropped.
+    pub earlier: Dropped,
 }
 
 impl OpenSection {
@@ -36,6 +50,18 @@ impl OpenSection {
         Ok(OpenSection {
             order: self.order,
             interfaces: Vec::from_slice(alloc, &self.interfaces)?,
+            earlier: self.earlier,
         })
+    }
+
+    /// How many packets it and the sections before it say were dropped.
+    pub(crate) fn dropped(&self) -> Dropped
+        ensures { result ≡ dropped_in (section_of self.now) }
+    {
+        let mut dropped = Dropped::none();
+        for interface in &self.interfaces {
+            dropped = with_interface(dropped, interface);
+        }
+        dropped.with(self.earlier)
     }
 }

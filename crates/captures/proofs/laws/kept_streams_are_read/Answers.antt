@@ -1,4 +1,4 @@
-use Rattle.captures.proofs.Standing.{stands_passed, stands_reads, stands_size, stands_waiting}
+use Rattle.captures.proofs.Standing.{stands_dropped, stands_passed, stands_reads, stands_size, stands_waiting}
 use Rattle.captures.proofs.laws.kept_streams_are_read.Goals as goal
 
 pub returns-clause-reads : goal.returns-clause-reads
@@ -12,3 +12,6 @@ returns-clause-waiting c = stands_waiting
 
 pub returns-clause-size : goal.returns-clause-size
 returns-clause-size c = stands_size
+
+pub returns-clause-dropped : goal.returns-clause-dropped
+returns-clause-dropped c = stands_dropped

@@ -15,5 +15,5 @@ returns-clause-ok c =
     let few : c.number-captured.result ≤ 262144 = omega (arith, c.if-captured-gt-MOST_CAPTURED.false) in
     let enough : c.number-captured.result ≤ length (drop 16 c.args.bytes.now) = rw (← c.split_at.ensures.back) c.if-behind-captured.false in
     let cut : c.in_ok-bytes.bytes.items ≡ take c.number-captured.result (drop 16 c.args.bytes.now) = rw (← c.split_at.ensures.back) c.in_ok-bytes.ensures.items in
-    let packet = packet_said c.args.header c.args.bytes.now c.split_at.result.0.now c.in_ok-bytes.bytes.items c.stamp_of.result c.split_at.ensures.front c.stamp_of.ensures in
+    let packet = packet_said c.args.header c.args.bytes.now c.split_at.result.0.now c.in_ok-bytes.bytes.items c.stamp_of.result c.number.result c.split_at.ensures.front c.stamp_of.ensures c.number.ensures in
     next_of c.args.header c.args.bytes.now c.in_ok-bytes.bytes.items c.number-captured.result _ c.if-bytes-lt-HEAD_BYTES.false (λ begins. absurd (cc (c.if-begins.false, c.begins.ensures.1 begins))) said few enough cut packet

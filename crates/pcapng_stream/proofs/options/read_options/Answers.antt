@@ -1,5 +1,4 @@
-use Rattle.std.proofs.Common.{◌≡◌, ◌+◌, ◌∙◌, ℕ, List, true, false, Some, None, drop, ap, sym, subst, rules}
-use Rattle.pcapng_stream.specs.Numbers.{padded}
+use Rattle.std.proofs.Common.{◌≡◌, ℕ, List, true, false, Some, None, sym, subst, rules}
 use Rattle.pcapng_stream.specs.Options.{first_option, has_ended, is_cut, more_options}
 use Rattle.pcapng_stream.specs.Inside.{said_with, stamping_in}
 use Rattle.pcapng_stream.proofs.Walking.{Says, all_said, begins, cut_none, left_behind, wrong_none}
@@ -16,7 +15,7 @@ walk-preserved c =
     let goes : has_ended o l ≡ false = search rules in
     let whole : is_cut o l ≡ false = search rules in
     let kept : said_with o c.walk.said (first_option o l) ≡ Some c.in-Some.more = search rules in
-    let cut : c.behind-left.result.now ≡ more_options o l = c.behind-left.ensures ∙ ap (λ (n : ℕ). drop (4 + n) l) (c.padded.ensures ∙ ap (λ (n : ℕ). padded n) c.option_length.ensures.value) in
+    let cut : c.more_options-left.result.now ≡ more_options o l = c.more_options-left.ensures in
     subst (λ (x : List ℕ). Says o c.in-Some.more x all) (sym cut) (left_behind o c.walk.said c.in-Some.more l all goes whole kept c.walk.invariant)
 
 pub returns-then-is_cut : goal.returns-then-is_cut
