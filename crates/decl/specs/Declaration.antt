@@ -31,11 +31,12 @@ pub record Declaration : Type 0 where
   pub links : List Link
   pub payload_bytes : ℕ
   pub tcp_options : Bool
+  pub fragments : Bool
   pub source : Option ℕ
 
 -- what the code's own declaration says
 abbrev pub declaration_of : Decl → Declaration
-declaration_of d = record { hosts = d.hosts.items; clocks = d.clocks.items; owners = d.owners.items; addresses = d.addresses; addresses6 = d.addresses6; labels = d.labels.items; links = d.links; payload_bytes = d.payload_bytes; tcp_options = d.tcp_options; source = d.source }
+declaration_of d = record { hosts = d.hosts.items; clocks = d.clocks.items; owners = d.owners.items; addresses = d.addresses; addresses6 = d.addresses6; labels = d.labels.items; links = d.links; payload_bytes = d.payload_bytes; tcp_options = d.tcp_options; fragments = d.fragments; source = d.source }
 
 -- a name comes before another in byte order
 abbrev pub Precedes : List ℕ → List ℕ → Type 0

@@ -71,6 +71,7 @@ declared ms = record {
   links = links_of (hosts_of (hosts_in ms)) (links_in ms);
   payload_bytes = number_at (codes "payload_bytes") ms;
   tcp_options = flag_at (codes "tcp_options") ms;
+  fragments = flag_at (codes "fragments") ms;
   source = option_and_then (clock_place (clocks_of (hosts_in ms))) (text_at (codes "source") ms);
 }
 

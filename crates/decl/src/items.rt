@@ -28,6 +28,8 @@ pub struct Decl {
     pub payload_bytes: u8,
     /// Whether options of TCP belong to that key too: timestamps and selective acknowledgments.
     pub tcp_options: bool,
+    /// Whether fragments have keys, and packets of IPv6 behind extension headers.
+    pub fragments: bool,
     /// The place of the clock that shows true time, if one is said to: it is never short or long.
     pub source: Option<u32>,
 }

@@ -61,7 +61,7 @@ fn document_shape(key: &str) -> Option<Shape>
         "links" => Some(Shape::Array),
         "payload_bytes" => Some(Shape::Whole),
         "source" => Some(Shape::Text),
-        "tcp_options" => Some(Shape::Flag),
+        "tcp_options" | "fragments" => Some(Shape::Flag),
         _ => None,
     }
 }

@@ -3,6 +3,7 @@
 //!
 //! | Key of the document | What it is |
 //! |---|---|
+//! | `fragments` | true or false; false where it is not there |
 //! | `hosts` | a table with a table for each host, by its name |
 //! | `labels` | a table with a table for each trace, by its name |
 //! | `links` | an array with a table for each link |

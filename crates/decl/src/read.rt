@@ -117,6 +117,7 @@ fn read_document(alloc: Global, table: &Table) -> Result<Decl, DeclError>
         links,
         payload_bytes,
         tcp_options: flag_at(table, "tcp_options"),
+        fragments: flag_at(table, "fragments"),
         source,
     })
 }

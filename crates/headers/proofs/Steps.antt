@@ -33,32 +33,32 @@ unfolding decoded
 frame_refused link frame wanted reason l =
     let part = carried_in link frame in
     refused (first_reason (checks link frame wanted)) (key_of part wanted) reason
-    (first_says (link_checks link frame) (packet_checks part) (transport_checks (parts_of part) wanted) reason l)
+    (first_says (link_checks link frame) (packet_checks part wanted) (transport_checks (parts_of part wanted) wanted) reason l)
 
 pub packet_refused : (link : ℕ) (frame : List ℕ) (wanted : Wanted) (part : FramePart) (reason : Reason) → part ≡ carried_in link frame → first_reason (link_checks link frame) ≡ None
-    → first_reason (packet_checks part) ≡ Some reason → Err reason ≡ decoded link frame wanted
+    → first_reason (packet_checks part wanted) ≡ Some reason → Err reason ≡ decoded link frame wanted
 unfolding decoded
 packet_refused link frame wanted part reason e l p =
     let own = carried_in link frame in
     refused (first_reason (checks link frame wanted)) (key_of own wanted) reason
-    (second_says (link_checks link frame) (packet_checks own) (transport_checks (parts_of own) wanted) reason l (subst (λ (it : FramePart). first_reason (packet_checks it) ≡ Some reason) e p))
+    (second_says (link_checks link frame) (packet_checks own wanted) (transport_checks (parts_of own wanted) wanted) reason l (subst (λ (it : FramePart). first_reason (packet_checks it wanted) ≡ Some reason) e p))
 
 carried_says : (link : ℕ) (frame : List ℕ) (wanted : Wanted) (part : FramePart) (o : Option Reason) → part ≡ carried_in link frame → first_reason (link_checks link frame) ≡ None
-    → first_reason (packet_checks part) ≡ None → first_reason (transport_checks (parts_of part) wanted) ≡ o → first_reason (checks link frame wanted) ≡ o
+    → first_reason (packet_checks part wanted) ≡ None → first_reason (transport_checks (parts_of part wanted) wanted) ≡ o → first_reason (checks link frame wanted) ≡ o
 carried_says link frame wanted part o e l p t =
     let own = carried_in link frame in
-    third_says (link_checks link frame) (packet_checks own) (transport_checks (parts_of own) wanted) o l (subst (λ (it : FramePart). first_reason (packet_checks it) ≡ None) e p)
-    (subst (λ (it : FramePart). first_reason (transport_checks (parts_of it) wanted) ≡ o) e t)
+    third_says (link_checks link frame) (packet_checks own wanted) (transport_checks (parts_of own wanted) wanted) o l (subst (λ (it : FramePart). first_reason (packet_checks it wanted) ≡ None) e p)
+    (subst (λ (it : FramePart). first_reason (transport_checks (parts_of it wanted) wanted) ≡ o) e t)
 
 pub carried_refused : (link : ℕ) (frame : List ℕ) (wanted : Wanted) (part : FramePart) (reason : Reason) → part ≡ carried_in link frame → first_reason (link_checks link frame) ≡ None
-    → first_reason (packet_checks part) ≡ None → first_reason (transport_checks (parts_of part) wanted) ≡ Some reason → Err reason ≡ decoded link frame wanted
+    → first_reason (packet_checks part wanted) ≡ None → first_reason (transport_checks (parts_of part wanted) wanted) ≡ Some reason → Err reason ≡ decoded link frame wanted
 unfolding decoded
 carried_refused link frame wanted part reason e l p t =
     refused (first_reason (checks link frame wanted)) (key_of (carried_in link frame) wanted) reason (carried_says link frame wanted part (Some reason) e l p t)
 
 -- where there is none, the key of the packet is that of the frame
 pub keyed : (link : ℕ) (frame : List ℕ) (wanted : Wanted) (part : FramePart) (key : PacketKey) → part ≡ carried_in link frame → first_reason (link_checks link frame) ≡ None
-    → first_reason (packet_checks part) ≡ None → first_reason (transport_checks (parts_of part) wanted) ≡ None → key ≡ key_of part wanted → Ok key ≡ decoded link frame wanted
+    → first_reason (packet_checks part wanted) ≡ None → first_reason (transport_checks (parts_of part wanted) wanted) ≡ None → key ≡ key_of part wanted → Ok key ≡ decoded link frame wanted
 unfolding decoded
 keyed link frame wanted part key e l p t k =
     given (first_reason (checks link frame wanted)) key (key_of (carried_in link frame) wanted) (carried_says link frame wanted part None e l p t)

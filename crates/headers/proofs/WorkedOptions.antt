@@ -1,5 +1,5 @@
 -- Lists of options as hosts send them.
-use Rattle.std.proofs.Common.{◌≡◌, List, [], ◌∷◌, Some, None, refl}
+use Rattle.std.proofs.Common.{◌≡◌, [], ◌∷◌, Some, None, refl}
 use Rattle.headers.specs.Options.{telling}
 
 -- of a SYN: the greatest segment, SACK is permitted, timestamps, a byte that fills, a window's scale

@@ -10,7 +10,7 @@ use Rattle.headers.specs.Packet.{packet_checks, parts_of, transport_checks}
 
 -- why a frame on this link has no key: first by the link, then by the packet, then by what that carries
 abbrev pub checks : ℕ → List ℕ → Wanted → List Check
-checks link frame wanted = link_checks link frame ++ packet_checks (carried_in link frame) ++ transport_checks (parts_of (carried_in link frame)) wanted
+checks link frame wanted = link_checks link frame ++ packet_checks (carried_in link frame) wanted ++ transport_checks (parts_of (carried_in link frame) wanted) wanted
 
 -- this key, where there is no reason against it
 abbrev pub answer_by : Option Reason → PacketKey → Result PacketKey Reason

@@ -1,18 +1,14 @@
 -- What the parts of the code answer each other.
-use Rattle.std.specs.Prelude.{◌≡◌, ℕ}
+use Rattle.std.specs.Prelude.{◌≡◌}
+use Rattle.headers.specs.declared.packet.Inner.{Inner}
 use Rattle.headers.specs.declared.packet.Packet.{Packet}
-use Rattle.headers.specs.declared.packet.Protocol.{Protocol}
-use Rattle.headers.specs.declared.packet.Protocol.TheVariants.{Tcp, Udp}
-use Rattle.headers.specs.Layers.{PacketParts}
+use Rattle.headers.specs.Layers.{InnerPart, PacketParts}
 
--- the number of a protocol
-abbrev pub number_of : Protocol → ℕ
-number_of Tcp = 6
-number_of Udp = 17
+-- what was found to follow a header
+abbrev pub follows : Inner → InnerPart
+follows i = record { protocol = i.protocol; length = i.length; carried = i.carried.now; cut = i.cut }
 
 -- what was read of a packet is what it says
 pub record IsRead (parts : PacketParts) (p : Packet) : Type 0 where
   pub network : p.network ≡ parts.network
-  pub protocol : number_of p.protocol ≡ parts.protocol
-  pub length : p.length ≡ parts.length
-  pub carried : p.carried.now ≡ parts.carried
+  pub inner : follows p.inner ≡ parts.inner

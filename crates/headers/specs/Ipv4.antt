@@ -1,7 +1,8 @@
 -- An IPv4 datagram (RFC 791), of which the end may not have been captured.
-use Rattle.std.specs.Prelude.{ℕ, ◌*◌, ◌-◌, ◌/◌, ◌%◌, Bool, not, ◌||◌, ◌==◌, nat_lt, List, [], ◌∷◌, length, take, drop}
+use Rattle.std.specs.Prelude.{ℕ, ◌*◌, ◌-◌, ◌/◌, ◌%◌, Bool, not, ◌&&◌, ◌||◌, ◌==◌, if◌then◌else◌, nat_lt, List, [], ◌∷◌, length, take, drop, Option, Some, None}
 use Rattle.headers.specs.declared.key.Network.TheVariants.{V4}
-use Rattle.headers.specs.declared.key.Reason.TheVariants.{Other, Short, Header, Fragment, Length}
+use Rattle.headers.specs.declared.key.Reason.TheVariants.{Short, Header, Fragment, Length}
+use Rattle.headers.specs.declared.packet.Place.{Place}
 use Rattle.headers.specs.Bytes.{byte_at, half_at, version, word_at}
 use Rattle.headers.specs.Checks.{Check, refuse}
 use Rattle.headers.specs.Layers.{PacketParts}
@@ -34,22 +35,28 @@ protocol datagram = byte_at 9 datagram
 abbrev pub carried_length : List ℕ → ℕ
 carried_length datagram = total_length datagram - header_length datagram
 
+-- where it stands in what it is a fragment of, if it is one
+abbrev pub place_of : List ℕ → Option Place
+place_of datagram = if is_fragment datagram then Some (record { id = half_at 4 datagram; offset = fragment_offset datagram }) else None
+
 -- what the header says: addresses, identification, protocol
 abbrev pub datagram_of : List ℕ → PacketParts
 datagram_of datagram = record {
   network = V4 (word_at 12 datagram) (word_at 16 datagram) (half_at 4 datagram);
-  protocol = protocol datagram;
-  length = carried_length datagram;
-  carried = take (carried_length datagram) (drop (header_length datagram) datagram);
+  inner = record {
+    protocol = protocol datagram;
+    length = carried_length datagram;
+    carried = take (carried_length datagram) (drop (header_length datagram) datagram);
+    cut = place_of datagram;
+  };
 }
 
--- why a datagram has no key, whatever it carries
-abbrev pub datagram_checks : List ℕ → List Check
-datagram_checks datagram =
+-- why a datagram has no key, whatever it carries; a fragment has one where fragments are wanted
+abbrev pub datagram_checks : List ℕ → Bool → List Check
+datagram_checks datagram fragments =
     refuse (nat_lt (length datagram) 20) Short
     ∷ refuse (not (version datagram == 4) || nat_lt (header_length datagram) 20) Header
     ∷ refuse (nat_lt (total_length datagram) (header_length datagram)) Length
     ∷ refuse (nat_lt (length datagram) (header_length datagram)) Short
-    ∷ refuse (is_fragment datagram) Fragment
-    ∷ refuse (not (protocol datagram == 6 || protocol datagram == 17)) Other
+    ∷ refuse (is_fragment datagram && not fragments) Fragment
     ∷ []

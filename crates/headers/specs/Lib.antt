@@ -3,9 +3,11 @@ pub mod Checks
 pub mod Layers
 pub mod Frame
 pub mod Ipv4
+pub mod Extensions
 pub mod Ipv6
 pub mod Options
 pub mod Transport
+pub mod Pieces
 pub mod Packet
 pub mod Keys
 pub mod Decoding

@@ -1,7 +1,7 @@
 -- What a datagram carries: a TCP segment (RFC 9293) or a UDP datagram (RFC 768). The header below says how long it is;
 -- the bytes are those that were captured.
-use Rattle.std.specs.Prelude.{ℕ, ◌+◌, ◌*◌, ◌-◌, ◌/◌, ◌||◌, ◌==◌, if◌then◌else◌, nat_lt, min, List, [], ◌∷◌, length, take, drop}
-use Rattle.headers.specs.declared.key.Reason.TheVariants.{Short, Header, Length}
+use Rattle.std.specs.Prelude.{ℕ, true, ◌+◌, ◌*◌, ◌-◌, ◌/◌, ◌||◌, ◌==◌, if◌then◌else◌, nat_lt, min, List, [], ◌∷◌, length, take, drop}
+use Rattle.headers.specs.declared.key.Reason.TheVariants.{Other, Short, Header, Length}
 use Rattle.headers.specs.declared.key.Segment.{Segment}
 use Rattle.headers.specs.declared.key.Transport.{Transport}
 use Rattle.headers.specs.declared.key.Transport.TheVariants.{Tcp, Udp}
@@ -75,13 +75,14 @@ udp_part datagram payload_bytes = record {
 }
 
 -- ---- either
--- why what a datagram of this protocol carries has no key: it is TCP, or else UDP
+-- why what a datagram of this protocol carries has no key
 abbrev pub carried_checks : ℕ → ℕ → List ℕ → Wanted → List Check
 carried_checks protocol whole carried wanted =
     if protocol == 6 then tcp_checks whole carried wanted
-    else udp_checks whole carried wanted.payload_bytes
+    else if protocol == 17 then udp_checks whole carried wanted.payload_bytes
+    else refuse true Other ∷ []
 
--- what the key has of it
+-- what the key has of it: it is TCP, or else UDP
 abbrev pub carried_part : ℕ → ℕ → List ℕ → Wanted → Transport
 carried_part protocol whole carried wanted =
     if protocol == 6 then Tcp (tcp_part whole carried wanted)

@@ -18,7 +18,7 @@ fn read_transport(packet: &Packet<'_>, wanted: Wanted) -> Result<Transport, Reas
     ensures read { (parts : PacketParts) → IsRead parts packet.now → IfOk result (λ part. part ≡ transport_part parts wanted) }
     ensures refused { (parts : PacketParts) → IsRead parts packet.now → IfErr result (λ reason. first_reason (transport_checks parts wanted) ≡ Some reason) }
 {
-    transport_of(packet.protocol, packet.length, packet.carried, wanted)
+    transport_of(&packet.inner, wanted)
 }
 
 /// What a frame is known by, which was captured on a link of this type, or why it has no key. It takes no memory.
@@ -29,12 +29,14 @@ fn read_transport(packet: &Packet<'_>, wanted: Wanted) -> Result<Transport, Reas
 /// key has beside the fields that it always has. Bytes behind the end of the packet are not looked at.
 ///
 /// A packet of IPv4 (RFC 791) or IPv6 (RFC 8200) has a key where TCP (RFC 9293) or UDP (RFC 768) stands right behind its
-/// header. Of the reasons against a key the first in the order of the headers is given.
+/// header. Where fragments are wanted, each of them has a key too, whatever its protocol is, and of IPv6 up to eight
+/// extension headers may stand before what a packet carries. Of the reasons against a key the first in the order of the
+/// headers is given.
 pub fn decode(link: u16, frame: &[u8], wanted: Wanted) -> Result<PacketKey, Reason>
     requires { wanted.payload_bytes ≤ 64 }
     ensures { result ≡ decoded link frame.now wanted }
 {
-    let packet = read_packet(packet_in(link, frame)?)?;
+    let packet = read_packet(packet_in(link, frame)?, wanted)?;
     let transport = read_transport(&packet, wanted)?;
     Ok(PacketKey {
         network: packet.network,

@@ -2,10 +2,10 @@
 ghost use Rattle.std.specs.Prelude.{◌≡◌, ◌<◌, ◌≤◌, length, take, drop, Some, None, IfOk, IfErr, OnOk};
 ghost use Rattle.headers.specs.Checks.{first_reason};
 ghost use Rattle.headers.specs.Inside.{IsRead};
-ghost use Rattle.headers.specs.Ipv4.{datagram_checks, datagram_of, header_length, is_fragment};
+ghost use Rattle.headers.specs.Ipv4.{datagram_checks, datagram_of, header_length, is_fragment, place_of};
 
 use crate::bytes::{behind, front, half_at, word_at};
-use crate::packet::{Packet, Protocol, version_in};
+use crate::packet::{Inner, Packet, Place, version_in};
 use crate::{Network, Reason};
 
 // The version of these datagrams.
@@ -50,6 +50,21 @@ fn is_fragment(datagram: &[u8]) -> bool
     field & MORE_FRAGMENTS != 0 || field & OFFSET != 0
 }
 
+// Where it stands in what it is a fragment of, if it is one.
+fn place_of(datagram: &[u8]) -> Option<Place>
+    requires { 8 ≤ length datagram.now }
+    ensures { result ≡ place_of datagram.now }
+{
+    if is_fragment(datagram) {
+        Some(Place {
+            id: u32::from(half_at(datagram, IDENTIFICATION)),
+            offset: half_at(datagram, FRAGMENT) & OFFSET,
+        })
+    } else {
+        None
+    }
+}
+
 // Those bytes behind the header that were captured and are of the datagram.
 fn carried(datagram: &[u8], header: u16, carried_length: u16) -> &[u8]
     requires { header ≤ length datagram.now }
@@ -61,11 +76,11 @@ fn carried(datagram: &[u8], header: u16, carried_length: u16) -> &[u8]
     )
 }
 
-// Reads a datagram of TCP or UDP that is no fragment.
-pub(crate) fn read_packet(bytes: &[u8]) -> Result<Packet<'_>, Reason>
-    ensures lawful { OnOk result (first_reason (datagram_checks bytes.now) ≡ None) }
+// Reads the header of a datagram, which may be a fragment where fragments are wanted.
+pub(crate) fn read_packet(bytes: &[u8], fragments: bool) -> Result<Packet<'_>, Reason>
+    ensures lawful { OnOk result (first_reason (datagram_checks bytes.now fragments) ≡ None) }
     ensures read { IfOk result (λ packet. IsRead (datagram_of bytes.now) packet) }
-    ensures refused { IfErr result (λ reason. first_reason (datagram_checks bytes.now) ≡ Some reason) }
+    ensures refused { IfErr result (λ reason. first_reason (datagram_checks bytes.now fragments) ≡ Some reason) }
 {
     if bytes.len() < usize::from(LEAST_HEADER) {
         return Err(Reason::Short);
@@ -81,20 +96,20 @@ pub(crate) fn read_packet(bytes: &[u8]) -> Result<Packet<'_>, Reason>
     if bytes.len() < usize::from(header) {
         return Err(Reason::Short);
     }
-    if is_fragment(bytes) {
+    if is_fragment(bytes) && !fragments {
         return Err(Reason::Fragment);
     }
-    let Some(protocol) = Protocol::of_number(bytes[PROTOCOL]) else {
-        return Err(Reason::Other);
-    };
     Ok(Packet {
         network: Network::V4 {
             source: word_at(bytes, SOURCE),
             target: word_at(bytes, TARGET),
             id: half_at(bytes, IDENTIFICATION),
         },
-        protocol,
-        length: total - header,
-        carried: carried(bytes, header, total - header),
+        inner: Inner {
+            protocol: bytes[PROTOCOL],
+            length: total - header,
+            carried: carried(bytes, header, total - header),
+            cut: place_of(bytes),
+        },
     })
 }

@@ -1,46 +1,42 @@
 // A packet of the internet protocol, of either version.
-ghost use Rattle.std.specs.Prelude.{◌≡◌, ◌<◌, ◌||◌, ◌==◌, false, length, Some, None, IfSome, IfNone, IfOk, IfErr, OnOk};
+ghost use Rattle.std.specs.Prelude.{◌≡◌, ◌<◌, length, Some, None, IfOk, IfErr, OnOk};
 ghost use Rattle.headers.specs.Bytes.{version};
 ghost use Rattle.headers.specs.Checks.{first_reason};
 ghost use Rattle.headers.specs.Frame.{carries};
-ghost use Rattle.headers.specs.Inside.{IsRead, number_of};
+ghost use Rattle.headers.specs.Inside.{IsRead};
 ghost use Rattle.headers.specs.Packet.{packet_checks, parts_of};
 
 use crate::link::{Carried, Version};
-use crate::{Network, Reason, ipv4, ipv6};
+use crate::{Network, Reason, Wanted, ipv4, ipv6};
 
-// A protocol whose packets have keys.
+// Where a fragment stands.
 #[derive(Clone, Copy)]
-pub(crate) enum Protocol {
-    // Number 6 of IANA's list.
-    Tcp,
-    // Number 17 of that list.
-    Udp,
+pub(crate) struct Place {
+    // The identification of what it is a fragment of.
+    pub(crate) id: u32,
+    // Its place in that, by eight bytes.
+    pub(crate) offset: u16,
 }
 
-// A packet that is whole as it was sent, though its end may not have been captured.
+// What follows a header.
 #[derive(Clone, Copy)]
-pub(crate) struct Packet<'a> {
-    pub(crate) network: Network,
-    pub(crate) protocol: Protocol,
-    // How many bytes it carries.
+pub(crate) struct Inner<'a> {
+    // The number of its protocol in IANA's list.
+    pub(crate) protocol: u8,
+    // How many bytes it has.
     pub(crate) length: u16,
     // Those of them that were captured.
     pub(crate) carried: &'a [u8],
+    // Where it stands in what it is a fragment of, if it is one.
+    pub(crate) cut: Option<Place>,
 }
 
-impl Protocol {
-    // The protocol with this number in IANA's list; None exactly where it is neither.
-    pub(crate) fn of_number(number: u8) -> Option<Protocol>
-        ensures known { IfSome result (λ protocol. number_of protocol ≡ number) }
-        ensures other { IfNone result ((number == 6 || number == 17) ≡ false) }
-    {
-        match number {
-            6 => Some(Protocol::Tcp),
-            17 => Some(Protocol::Udp),
-            _ => None,
-        }
-    }
+// A packet, of which the end may not have been captured.
+#[derive(Clone, Copy)]
+pub(crate) struct Packet<'a> {
+    pub(crate) network: Network,
+    // What stands behind the headers of the internet protocol.
+    pub(crate) inner: Inner<'a>,
 }
 
 // The version that the first byte of a packet gives.
@@ -51,14 +47,14 @@ pub(crate) fn version_in(packet: &[u8]) -> u8
     packet[0] >> 4
 }
 
-// Reads a packet of TCP or UDP that is no fragment.
-pub(crate) fn read_packet(carried: Carried<'_>) -> Result<Packet<'_>, Reason>
-    ensures lawful { OnOk result (first_reason (packet_checks (carries carried.entry)) ≡ None) }
-    ensures read { IfOk result (λ packet. IsRead (parts_of (carries carried.entry)) packet) }
-    ensures refused { IfErr result (λ reason. first_reason (packet_checks (carries carried.entry)) ≡ Some reason) }
+// Reads the headers of a packet.
+pub(crate) fn read_packet(carried: Carried<'_>, wanted: Wanted) -> Result<Packet<'_>, Reason>
+    ensures lawful { OnOk result (first_reason (packet_checks (carries carried.entry) wanted) ≡ None) }
+    ensures read { IfOk result (λ packet. IsRead (parts_of (carries carried.entry) wanted) packet) }
+    ensures refused { IfErr result (λ reason. first_reason (packet_checks (carries carried.entry) wanted) ≡ Some reason) }
 {
     match carried.version {
-        Version::Four => ipv4::read_packet(carried.bytes),
-        Version::Six => ipv6::read_packet(carried.bytes),
+        Version::Four => ipv4::read_packet(carried.bytes, wanted.fragments),
+        Version::Six => ipv6::read_packet(carried.bytes, wanted.fragments),
     }
 }

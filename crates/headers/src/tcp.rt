@@ -10,7 +10,7 @@ use crate::transport::payload_of;
 use crate::{Reason, Segment, Transport, Wanted};
 
 // The least header: one without options.
-const LEAST_HEADER: u16 = 20;
+pub(crate) const LEAST_HEADER: u16 = 20;
 
 // The places of fields in a header.
 const SOURCE_PORT: usize = 0;
@@ -26,7 +26,7 @@ const DATA_OFFSET: usize = 12;
 const FLAGS: usize = 13;
 
 // The bytes of the header.
-fn data_offset(segment: &[u8]) -> u16
+pub(crate) fn data_offset(segment: &[u8]) -> u16
     requires { 12 < length segment.now }
     ensures value { result ≡ data_offset segment.now }
     ensures small { result ≤ 60 }

@@ -9,7 +9,7 @@ use crate::transport::payload_of;
 use crate::{Reason, Transport, UserDatagram};
 
 // The bytes of a header.
-const HEADER: u16 = 8;
+pub(crate) const HEADER: u16 = 8;
 
 // The places of fields in a header.
 const SOURCE_PORT: usize = 0;

@@ -20,11 +20,11 @@ returns-in_err-transport c =
     let is : c.from_residual-in_err-transport.result ≡ Err c.in_err-transport.field-0.0 = search rules in
     let part = carries c.in_ok-packet_in.field-0 in
     rw is (carried_refused c.args.link c.args.frame.now c.args.wanted part c.in_err-transport.field-0.0 c.in_ok-packet_in.ensures.found c.in_ok-packet_in.ensures.lawful
-    c.in_ok-packet.ensures.lawful (c.in_err-transport.ensures.refused (parts_of part) c.in_ok-packet.ensures.read))
+    c.in_ok-packet.ensures.lawful (c.in_err-transport.ensures.refused (parts_of part c.args.wanted) c.in_ok-packet.ensures.read))
 
 pub returns : goal.returns
 returns c =
     let part = carries c.in_ok-packet_in.field-0 in
     let read = c.in_ok-packet.ensures.read in
     keyed c.args.link c.args.frame.now c.args.wanted part _ c.in_ok-packet_in.ensures.found c.in_ok-packet_in.ensures.lawful
-    c.in_ok-packet.ensures.lawful (c.in_ok-transport.ensures.lawful (parts_of part) read) (rw (read.network, c.in_ok-transport.ensures.read (parts_of part) read) refl)
+    c.in_ok-packet.ensures.lawful (c.in_ok-transport.ensures.lawful (parts_of part c.args.wanted) read) (rw (read.network, c.in_ok-transport.ensures.read (parts_of part c.args.wanted) read) refl)

@@ -1,4 +1,4 @@
-use Rattle.std.proofs.Common.{◌≡◌, ◌∙◌, sym, suc, ◌-◌, false, rules, arith}
+use Rattle.std.proofs.Common.{◌≡◌, ◌∙◌, sym, suc, ◌-◌, arith}
 use Rattle.headers.proofs.Listing.{ends_cut, ends_few, ends_over, goes_on, has_room}
 use Rattle.headers.proofs.options.telling.Goals as goal
 
