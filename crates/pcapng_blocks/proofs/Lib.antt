@@ -1,0 +1,6 @@
+pub mod Keys
+pub mod Numbers
+pub mod ReadBack
+pub mod Whole
+mod Worked
+pub mod Written

@@ -1,0 +1,5 @@
+pub mod Bytes
+pub mod File
+pub mod Interfaces
+pub mod Reading
+pub mod Texts
