@@ -59,30 +59,32 @@ record_is link t is short = record {
   other = no_header link t is;
 }
 
-abbrev seen_with : ℕ → ℕ → List ℕ → Seen
-seen_with stamp link bytes = record { stamp = stamp; link = link; bytes = bytes }
+abbrev seen_with : ℕ → ℕ → ℕ → List ℕ → Seen
+seen_with stamp link original bytes = record { stamp = stamp; link = link; original_length = original; bytes = bytes }
 
-seen_one : (stamp stamp' link link' : ℕ) (bytes : List ℕ) → stamp ≡ stamp' → link ≡ link' → seen_with stamp link bytes ≡ seen_with stamp' link' bytes
-seen_one stamp stamp' link link' bytes p q = cc
+seen_one : (stamp stamp' link link' original original' : ℕ) (bytes : List ℕ) → stamp ≡ stamp' → link ≡ link' → original ≡ original' →
+    seen_with stamp link original bytes ≡ seen_with stamp' link' original' bytes
+seen_one stamp stamp' link link' original original' bytes p q r = cc
 
-packet_is : (link : ℕ) (t : Timed) → t.packet.link ≡ link → IsInRange t → packet_of (header_of link) (record_of_packet t) ≡ stamped t
-packet_is link t same is =
+packet_is : (link : ℕ) (t : Timed) → t.packet.link ≡ link → IsInRange t → IsShort t → packet_of (header_of link) (record_of_packet t) ≡ stamped t
+packet_is link t same is short =
     let nanos : ℕ = whole_nanos t.key.value in
     let captured : List ℕ = four_bytes (length t.packet.bytes) ++ four_bytes (length t.packet.bytes) in
     let seconds : little_number 4 (record_head nanos (length t.packet.bytes)) ≡ nanos / 1000000000 = read_four (nanos / 1000000000) (four_bytes (nanos % 1000000000) ++ captured) (seconds_small t is) in
     let rest : little_number 4 (drop 4 (record_head nanos (length t.packet.bytes))) ≡ nanos % 1000000000 = read_four (nanos % 1000000000) captured (omega arith) in
-    seen_one _ nanos link t.packet.link t.packet.bytes (stamp_said nanos _ _ seconds rest) (sym same)
+    let length_said : little_number 4 (drop 12 (record_head nanos (length t.packet.bytes))) ≡ length t.packet.bytes = read_four (length t.packet.bytes) [] (omega (arith, short)) in
+    seen_one _ nanos link t.packet.link _ (length t.packet.bytes) t.packet.bytes (stamp_said nanos _ _ seconds rest) (sym same) length_said
 
 -- ---- all records
 records_are : (link : ℕ) (ts : List Timed) → All IsInRange ts → All IsShort ts → All (IsRecord (header_of link)) (map record_of_packet ts)
 records_are link ts range short =
     All-map (IsRecord (header_of link)) record_of_packet ts (λ k d inside. record_is link (get_or ts k d) (range k d inside) (short k d inside))
 
-packets_are : (link : ℕ) (ts : List Timed) → All (λ (t : Timed). t.packet.link ≡ link) ts → All IsInRange ts → map (packet_of (header_of link)) (map record_of_packet ts) ≡ map stamped ts
-packets_are link [] same is = refl
-packets_are link (t ∷ ts) same is =
-    let first = packet_is link t (All-head (λ (u : Timed). u.packet.link ≡ link) t ts same) (All-head IsInRange t ts is) in
-    let more = packets_are link ts (All-tail (λ (u : Timed). u.packet.link ≡ link) t ts same) (All-tail IsInRange t ts is) in
+packets_are : (link : ℕ) (ts : List Timed) → All (λ (t : Timed). t.packet.link ≡ link) ts → All IsInRange ts → All IsShort ts → map (packet_of (header_of link)) (map record_of_packet ts) ≡ map stamped ts
+packets_are link [] same is short = refl
+packets_are link (t ∷ ts) same is short =
+    let first = packet_is link t (All-head (λ (u : Timed). u.packet.link ≡ link) t ts same) (All-head IsInRange t ts is) (All-head IsShort t ts short) in
+    let more = packets_are link ts (All-tail (λ (u : Timed). u.packet.link ≡ link) t ts same) (All-tail IsInRange t ts is) (All-tail IsShort t ts short) in
     rw (first, more) refl
 
 links_are : (ts : List Timed) → HasOneLink ts → All (λ (t : Timed). t.packet.link ≡ link_type_of ts) ts
@@ -121,6 +123,6 @@ read_back ts writable short links =
         none_too_long = λ long. omega (arith, long.0);
         no_header = λ second. omega (arith, second.0);
       };
-      packets = packets_are link ts (links_are ts writable.one_link) writable.in_range;
+      packets = packets_are link ts (links_are ts writable.one_link) writable.in_range short;
       no_rest = refl;
     }

@@ -1,6 +1,7 @@
 pub mod FewFollows
 pub mod Lengths
 pub mod ListedLines
+pub mod Paging
 pub mod OneProblem
 mod Lists
 mod Ids

@@ -1,2 +1,3 @@
 pub mod ReadAgain
 pub mod RosterText
+pub mod Paged

@@ -1,9 +1,10 @@
-//! The problem of a roster, written as its text line by line: a line for the head, one for each clock, each follow, each
-//! event and each message, and the end. No call takes memory.
+//! The problem of a roster, written as its text: a line for the head, one for each clock, each follow, each event and each
+//! message, and the end. Lines of which there may be many are gathered in pages. No call takes memory.
 #![tactic(auto)]
 
 mod laws;
 mod lines;
+mod pages;
 mod roster_lines;
 mod roster_problem;
 mod words;

@@ -1,13 +1,13 @@
-// The lines of a problem's text, each written in one piece.
+// Lines of a problem's text, each written in one piece: those of which there are few.
 ghost use Rattle.std.specs.Prelude.{◌≡◌, ◌⊎◌, ◌∷◌, [], codes};
 ghost use Rattle.atto.specs.Decimal.{decimal_of};
 ghost use Rattle.line_format.specs.Words.{line_of};
 ghost use Rattle.ports.specs.Content.{Writes};
 ghost use Rattle.problem_model.specs.ProblemText.{clock_line};
 ghost use Rattle.problem.specs.Line.{line_words};
-ghost use Rattle.problem.specs.Line.Line.{FollowLine, EventLine, MessageLine, EndLine};
+ghost use Rattle.problem.specs.Line.Line.{FollowLine, EndLine};
 
-use crate::words::{clock_line, event_line, follow_line, message_line};
+use crate::words::{clock_line, follow_line};
 use atto::Nano;
 use ports::{Failed, Sink, write_whole};
 use problem_model::{Clock, Name};
@@ -48,36 +48,6 @@ pub fn write_follow<O: Sink>(
     ensures { Writes (line_of (line_words (FollowLine earlier.now later.now gap))) (O.told out.old) (O.told out.new) result }
 {
     let line = follow_line(earlier, later, gap);
-    write_whole(out, line.as_slice())
-}
-
-/// Writes the line of an event: `event`, its name, the name of its clock, and its stamp in ns of that clock. It takes no
-/// memory. After `Failed`, which comes only where the sink's count of faults rose, some front of the line is written.
-pub fn write_event<O: Sink>(
-    name: &Name,
-    clock: &Name,
-    stamp: Nano,
-    out: &mut O,
-) -> Result<(), Failed>
-    ensures { Writes (line_of (line_words (EventLine name.now clock.now stamp))) (O.told out.old) (O.told out.new) result }
-{
-    let line = event_line(name, clock, stamp);
-    write_whole(out, line.as_slice())
-}
-
-/// Writes the line of a message: `message`, the names of the events that send and receive it, its least delay in ns, and
-/// its greatest one, or `none` where there is no such bound. It takes no memory. After `Failed`, which comes only where
-/// the sink's count of faults rose, some front of the line is written.
-pub fn write_message<O: Sink>(
-    send: &Name,
-    receive: &Name,
-    least: Nano,
-    most: Option<Nano>,
-    out: &mut O,
-) -> Result<(), Failed>
-    ensures { Writes (line_of (line_words (MessageLine send.now receive.now least most))) (O.told out.old) (O.told out.new) result }
-{
-    let line = message_line(send, receive, least, most);
     write_whole(out, line.as_slice())
 }
 

@@ -7,8 +7,10 @@ ghost use Rattle.traces.specs.Traces.{host_of};
 ghost use Rattle.roster.specs.Roster.{id_of, event_at};
 ghost use Rattle.problem_text.specs.RosterText.{HasPartners, came_line, couple_line, next_line, sent_line};
 
-use crate::lines::{write_event, write_follow, write_message};
+use crate::lines::write_follow;
+use crate::words::{event_line, message_line};
 use decl::Decl;
+use ports::fixed_line::Line;
 use ports::{Failed, Sink};
 use problem::Listing;
 use problem_model::Follow;
@@ -35,16 +37,16 @@ pub(crate) fn write_next<O: Sink>(roster: &Roster, place: u32, out: &mut O) -> R
     }
 }
 
-/// Writes the line of the event with this number.
-pub(crate) fn write_came<O: Sink>(roster: &Roster, v: u32, out: &mut O) -> Result<(), Failed>
+/// The line of the event with this number.
+pub(crate) fn came_line(roster: &Roster, v: u32) -> Line
     requires { v < length roster.now.came }
-    ensures { Writes (came_line roster.now v) (O.told out.old) (O.told out.new) result }
+    ensures { result.items ≡ came_line roster.now v }
 {
     let came = roster.event(v);
     let clock = roster.decl().labels[came.label as usize].clock;
     let name = roster.event_name(v);
     let clock = roster.clock_name(clock);
-    write_event(&name, &clock, came.stamp, out)
+    event_line(&name, &clock, came.stamp)
 }
 
 // The host that an event happened at.
@@ -55,16 +57,11 @@ fn host_of(decl: &Decl, came: &Came) -> u32
     decl.labels[came.label as usize].host
 }
 
-// Writes the line of the message that one event sends and another receives.
-fn write_couple<O: Sink>(
-    roster: &Roster,
-    send: u32,
-    receive: u32,
-    out: &mut O,
-) -> Result<(), Failed>
+// The line of the message that one event sends and another receives.
+fn couple_line(roster: &Roster, send: u32, receive: u32) -> Line
     requires send { send < length roster.now.came }
     requires receive { receive < length roster.now.came }
-    ensures { Writes (couple_line roster.now.declaration (id_of (event_at roster.now.came send)) (id_of (event_at roster.now.came receive))) (O.told out.old) (O.told out.new) result }
+    ensures { result.items ≡ couple_line roster.now.declaration (id_of (event_at roster.now.came send)) (id_of (event_at roster.now.came receive)) }
 {
     let decl = roster.decl();
     let from = host_of(decl, &roster.event(send));
@@ -72,17 +69,17 @@ fn write_couple<O: Sink>(
     let (least, most) = decl.link_of(from, to);
     let send = roster.event_name(send);
     let receive = roster.event_name(receive);
-    write_message(&send, &receive, least, most, out)
+    message_line(&send, &receive, least, most)
 }
 
-/// Writes the line of the message that the event with this number sends, if it sends one.
-pub(crate) fn write_sent<O: Sink>(roster: &Roster, v: u32, out: &mut O) -> Result<(), Failed>
+/// The line of the message that the event with this number sends. It is empty where it sends none.
+pub(crate) fn sent_line(roster: &Roster, v: u32) -> Line
     requires came { v < length roster.now.came }
     requires partners { HasPartners roster.now }
-    ensures { Writes (sent_line roster.now v) (O.told out.old) (O.told out.new) result }
+    ensures { result.items ≡ sent_line roster.now v }
 {
     match roster.event(v).partner {
-        Some(partner) => write_couple(roster, v, partner.event, out),
-        None => Ok(()),
+        Some(partner) => couple_line(roster, v, partner.event),
+        None => Line::new(),
     }
 }

@@ -1,4 +1,4 @@
-// The text of what a roster holds, written line by line.
+// The text of what a roster holds.
 ghost use Rattle.std.specs.Prelude.{◌≡◌, ◌≤◌, ◌⊎◌, ◌∷◌, [], List, codes, length};
 ghost use Rattle.std.specs.List.{flat_map};
 ghost use Rattle.atto.specs.Decimal.{decimal_of};
@@ -13,9 +13,10 @@ ghost use Rattle.roster.specs.Told.{TellsMessages, messages_by_number};
 ghost use Rattle.problem_text.specs.RosterText.{HasPartners, came_lines, roster_text, sent_lines};
 
 use crate::lines::{write_clock, write_end, write_head};
-use crate::roster_lines::{write_came, write_next, write_sent};
+use crate::pages::{Page, put};
+use crate::roster_lines::{came_line, sent_line, write_next};
 use decl::Decl;
-use ports::{Failed, Sink};
+use ports::{Failed, Sink, write_whole};
 use problem::Listing;
 use roster::Roster;
 
@@ -53,30 +54,32 @@ fn write_follows<O: Sink>(roster: &Roster, out: &mut O) -> Result<(), Failed>
     Ok(())
 }
 
-// Writes the lines of the events.
+// Writes the lines of the events, many in one write.
 fn write_events<O: Sink>(roster: &Roster, out: &mut O) -> Result<(), Failed>
     ensures { Writes (came_lines roster.now) (O.told out.old) (O.told out.new) result }
 {
+    let mut page = Page::new();
     for place in 0..roster.event_count() {
         let (v, _) = roster.event_at(place);
-        write_came(roster, v, out)?;
+        put(&mut page, came_line(roster, v).as_slice(), out)?;
     }
-    Ok(())
+    write_whole(out, page.as_slice())
 }
 
-// Writes the lines of the messages.
+// Writes the lines of the messages, many in one write.
 fn write_messages<O: Sink>(roster: &Roster, out: &mut O) -> Result<(), Failed>
     requires { HasPartners roster.now }
     ensures { Writes (sent_lines roster.now) (O.told out.old) (O.told out.new) result }
 {
+    let mut page = Page::new();
     for place in 0..roster.event_count() {
         let (v, _) = roster.event_at(place);
-        write_sent(roster, v, out)?;
+        put(&mut page, sent_line(roster, v).as_slice(), out)?;
     }
-    Ok(())
+    write_whole(out, page.as_slice())
 }
 
-// Writes the text, line by line.
+// Writes the text.
 fn write_text<O: Sink>(roster: &Roster, out: &mut O) -> Result<(), Failed>
     requires { HasPartners roster.now }
     ensures { Writes (roster_text roster.now) (O.told out.old) (O.told out.new) result }

@@ -16,14 +16,14 @@ use Rattle.event_log.specs.Log.{records_of, AreRows, IsLogFault}
 use Rattle.captures.specs.declared.errors.CaptureError.{CaptureError}
 use Rattle.captures.specs.declared.errors.CaptureError.TheVariants as refused
 use Rattle.captures.specs.Capture as captures
-use Rattle.captures.specs.Capture.{Passed, Reads, IsFault}
+use Rattle.captures.specs.Capture.{Reads, IsFault}
 use Rattle.decl.specs.declared.items.Label.{Label}
 use Rattle.decl.specs.declared.items.TraceKind.{TraceKind}
 use Rattle.decl.specs.declared.items.TraceKind.TheVariants.{Capture, Log}
 use Rattle.decl.specs.Declaration.{Declaration, IsDeclaration}
 use Rattle.traces.specs.Seen.{Seen}
 use Rattle.traces.specs.declared.event_id.EventId.{EventId}
-use Rattle.traces.specs.Traces.{Trace, Captured, Traces, passed_of, seen_under, seen_by}
+use Rattle.traces.specs.Traces.{Trace, Captured, Traces, Missed, missed_of, seen_under, seen_by}
 use Rattle.traces.specs.Messages.{problem_of, problem_of_seen}
 use Rattle.traces.proofs.Seen.{problem_lawful}
 use Rattle.queries.specs.Consistent.{IsConsistent}
@@ -158,8 +158,8 @@ one_of_one p Differ event Says lawful one a b (inl (i, at, x)) (inr (none, y)) =
 one_of_one p Differ event Says lawful one a b (inr (none, x)) (inl (i, at, y)) = absurd (none i at)
 one_of_one p Differ event Says lawful one a b (inr (none, x)) (inr (none', y)) = inl (x ∙ sym y)
 
-one_report : (d : Declaration) (seen : List (List Seen)) (passed : List Passed) (a b : List ℕ) → IsReport d seen passed a → IsReport d seen passed b → a ≡ b
-one_report d seen passed a b (x, is_x, is) (y, is_y, is') = is ∙ ap (λ (consistent : Bool). report_text d seen passed consistent) (one_state (problem_of_seen d seen) x y is_x is_y) ∙ sym is'
+one_report : (d : Declaration) (seen : List (List Seen)) (missed : List Missed) (a b : List ℕ) → IsReport d seen missed a → IsReport d seen missed b → a ≡ b
+one_report d seen missed a b (x, is_x, is) (y, is_y, is') = is ∙ ap (λ (consistent : Bool). report_text d seen missed consistent) (one_state (problem_of_seen d seen) x y is_x is_y) ∙ sym is'
 
 -- ---- events that are kept
 one_slot : (seen : List (List Seen)) (kept : List EventId) (event : EventId) → AreKept seen kept → (a b : List ℕ) (after other : List EventId) → SlotReply kept event a after →
@@ -271,23 +271,23 @@ module _ (below : Below) where
   one_compared questions.Interval p i j a b some is is' = below.interval p i j a b is is'
   one_compared questions.Order p i j a b some is is' = below.order p i j a b some is is'
 
-  one_answer_to : (q : Question) (d : Declaration) (seen : List (List Seen)) (passed : List Passed) → IsProblem (problem_of_seen d seen) → (a b : List ℕ) → IsAnswerTo q d seen passed a → IsAnswerTo q d seen passed b →
+  one_answer_to : (q : Question) (d : Declaration) (seen : List (List Seen)) (missed : List Missed) → IsProblem (problem_of_seen d seen) → (a b : List ℕ) → IsAnswerTo q d seen missed a → IsAnswerTo q d seen missed b →
       AreSame (MayDiffer (problem_of_seen d seen) (Ask q)) a b
-  one_answer_to (Compare what first second) d seen passed lawful a b x y =
+  one_answer_to (Compare what first second) d seen missed lawful a b x y =
       let p = problem_of_seen d seen in
       one_of_two p (AreContradictions p) first second (IsComparisonLine what p) lawful (λ one two are. are) (λ i j at at' one two some is is'. inl (one_compared what p i j one two some is is')) a b x y
-  one_answer_to (Time event) d seen passed lawful a b x y =
+  one_answer_to (Time event) d seen missed lawful a b x y =
       let p = problem_of_seen d seen in
       one_of_one p (AreContradictions p) event (IsTimeReply p d.source) lawful (one_time p d.source) a b x y
-  one_answer_to Merge d seen passed lawful a b x y =
+  one_answer_to Merge d seen missed lawful a b x y =
       let p = problem_of_seen d seen in
       one_answer p (AreContradictions p) (IsMergeText d seen) a b (λ one two are. are) (λ one two some is is'. inl (below.merge d seen one two is is')) x y
-  one_answer_to (Prove first second) d seen passed lawful a b x y =
+  one_answer_to (Prove first second) d seen missed lawful a b x y =
       let p = problem_of_seen d seen in
       one_of_two p (MayDiffer p (Ask (Prove first second))) first second (IsProofText p) lawful (λ one two are. inl are)
       (λ i j at at' one two some is is'. inr (inr (i, j, at, at', some, proofs_one p i j one two lawful (event_within p i first at) is is'))) a b x y
-  one_answer_to Problem d seen passed lawful a b x y = inl (x ∙ sym y)
-  one_answer_to Report d seen passed lawful a b x y = inl (one_report d seen passed a b x y)
+  one_answer_to Problem d seen missed lawful a b x y = inl (x ∙ sym y)
+  one_answer_to Report d seen missed lawful a b x y = inl (one_report d seen missed a b x y)
 
   -- ---- lines
   one_reply : (d : Declaration) (s : State) (c : Command) (found : Found) → IsProblem (problem_of d s.traces) → AreKept (seen_by d s.traces) s.kept →
@@ -296,7 +296,7 @@ module _ (below : Below) where
   one_reply d s (Keep event) found lawful kept = λ a b after other x y.
       let one = one_keeping (problem_of d s.traces) (seen_by d s.traces) s.kept event lawful kept a b after.kept other.kept x.2 y.2 in
       (inl one.0, one_state_of after other (x.1 ∙ sym y.1) one.1)
-  one_reply d s (Ask question) found lawful kept = λ a b after other x y. (one_answer_to question d (seen_by d s.traces) (map passed_of s.traces) lawful a b x.2 y.2, x.1 ∙ sym y.1)
+  one_reply d s (Ask question) found lawful kept = λ a b after other x y. (one_answer_to question d (seen_by d s.traces) (map missed_of s.traces) lawful a b x.2 y.2, x.1 ∙ sym y.1)
 
   one_of_command : (d : Declaration) (files : Content) (s : State) (line : List ℕ) (c : Option Command) (found : Found) → IsProblem (problem_of d s.traces) → AreKept (seen_by d s.traces) s.kept →
       Asks line c → AreOne (LineMayDiffer (problem_of d s.traces) line) (CommandReply d files s c found)

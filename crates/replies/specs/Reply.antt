@@ -12,7 +12,7 @@ use Rattle.event_log.specs.declared.row.Row.{Row}
 use Rattle.event_log.specs.Log.{records_of, AreRows, IsLogFault}
 use Rattle.captures.specs.declared.errors.CaptureError.{CaptureError}
 use Rattle.captures.specs.Capture as captures
-use Rattle.captures.specs.Capture.{Passed, Reads, IsFault, passed_count}
+use Rattle.captures.specs.Capture.{Reads, IsFault, passed_count}
 use Rattle.decl.specs.declared.items.Label.{Label}
 use Rattle.decl.specs.declared.items.TraceKind.{TraceKind}
 use Rattle.decl.specs.declared.items.TraceKind.TheVariants.{Capture, Log}
@@ -20,7 +20,7 @@ use Rattle.decl.specs.Declaration.{Declaration}
 use Rattle.traces.specs.Seen.{Seen}
 use Rattle.traces.specs.declared.event_id.EventId.{EventId}
 use Rattle.traces.specs.declared.event_id.Couple.{Couple}
-use Rattle.traces.specs.Traces.{Trace, Captured, Logged, Traces, Placed, passed_of, seen_by, bytes_accepted, events_of, event_count}
+use Rattle.traces.specs.Traces.{Trace, Captured, Logged, Traces, Missed, Placed, missed_of, passed_of, seen_by, bytes_accepted, events_of, event_count}
 use Rattle.traces.specs.Messages.{messages_of, missing, problem_of, problem_of_seen}
 use Rattle.queries.specs.Consistent.{IsConsistent}
 use Rattle.queries.specs.Replies.{HasReading, IsComparisonLine, IsProofText, IsTimeLine, Replies}
@@ -71,19 +71,19 @@ IsTimeReply p None event text = text ≡ refusal_line NoSourceTime
 IsTimeReply p (Some clock) event text = (HasReading p clock × Replies p (IsTimeLine p clock event) text)
     ⊎ ((HasReading p clock → ⊥) × (text ≡ refusal_line NoSourceTime))
 
--- the report on the events of all labels and on the packets that were passed over under each, by whether the problem of the events
+-- the report on the events of all labels and on the packets under each that have none, by whether the problem of the events
 -- has an execution
-abbrev pub IsReport : Declaration → List (List Seen) → List Passed → List ℕ → Type 0
-IsReport d seen passed text = (b : Bool) × IsConsistent (problem_of_seen d seen) b × (text ≡ report_text d seen passed b)
+abbrev pub IsReport : Declaration → List (List Seen) → List Missed → List ℕ → Type 0
+IsReport d seen missed text = (b : Bool) × IsConsistent (problem_of_seen d seen) b × (text ≡ report_text d seen missed b)
 
--- what answers a question about these events of all labels, and about the packets that were passed over under each
-abbrev pub IsAnswerTo : Question → Declaration → List (List Seen) → List Passed → List ℕ → Type 0
-IsAnswerTo (Compare what first second) d seen passed = let p = problem_of_seen d seen in OfTwo p first second (IsComparisonLine what p)
-IsAnswerTo (Time event) d seen passed = let p = problem_of_seen d seen in OfOne p event (IsTimeReply p d.source)
-IsAnswerTo Merge d seen passed = Replies (problem_of_seen d seen) (IsMergeText d seen)
-IsAnswerTo (Prove first second) d seen passed = let p = problem_of_seen d seen in OfTwo p first second (IsProofText p)
-IsAnswerTo Problem d seen passed = λ text. text ≡ problem_text (problem_of_seen d seen)
-IsAnswerTo Report d seen passed = IsReport d seen passed
+-- what answers a question about these events of all labels, and about the packets under each that have none
+abbrev pub IsAnswerTo : Question → Declaration → List (List Seen) → List Missed → List ℕ → Type 0
+IsAnswerTo (Compare what first second) d seen missed = let p = problem_of_seen d seen in OfTwo p first second (IsComparisonLine what p)
+IsAnswerTo (Time event) d seen missed = let p = problem_of_seen d seen in OfOne p event (IsTimeReply p d.source)
+IsAnswerTo Merge d seen missed = Replies (problem_of_seen d seen) (IsMergeText d seen)
+IsAnswerTo (Prove first second) d seen missed = let p = problem_of_seen d seen in OfTwo p first second (IsProofText p)
+IsAnswerTo Problem d seen missed = λ text. text ≡ problem_text (problem_of_seen d seen)
+IsAnswerTo Report d seen missed = IsReport d seen missed
 
 -- ---- additions
 -- whether there is an execution, as a word
@@ -256,4 +256,4 @@ KeepReply p seen kept name text kept' =
 abbrev pub Reply : Declaration → State → Command → Found → List ℕ → State → Type 0
 Reply d s (Add label path) found text s' = AddReply d s (label_at d label) found text s'
 Reply d s (Keep event) found text s' = (found ≡ Unread) × (s'.traces ≡ s.traces) × KeepReply (problem_of d s.traces) (seen_by d s.traces) s.kept event text s'.kept
-Reply d s (Ask question) found text s' = (found ≡ Unread) × (s' ≡ s) × IsAnswerTo question d (seen_by d s.traces) (map passed_of s.traces) text
+Reply d s (Ask question) found text s' = (found ≡ Unread) × (s' ≡ s) × IsAnswerTo question d (seen_by d s.traces) (map missed_of s.traces) text

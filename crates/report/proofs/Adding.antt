@@ -4,7 +4,6 @@ use Rattle.std.specs.Prelude.{filter, sum_by}
 use Rattle.std.proofs.lemmas.Bool.{cases_Bool, false≢true}
 use Rattle.std.proofs.lemmas.List.{length-map}
 use Rattle.std.proofs.lemmas.List.Sums.{sum_by-cons}
-use Rattle.captures.specs.Capture.{Passed}
 use Rattle.decl.specs.Declaration.{Declaration}
 use Rattle.traces.specs.declared.event.NoKey.{NoKey}
 use Rattle.traces.specs.declared.event.NoKey.TheVariants as without
@@ -12,7 +11,7 @@ use Rattle.traces.specs.declared.event.Side.{Side}
 use Rattle.traces.specs.declared.event.Side.TheVariants.{Send, Receive}
 use Rattle.traces.specs.Seen.{EventKey, Seen, SeenMark, Keyed, Unkeyed, is_same_key, is_same_side}
 use Rattle.traces.specs.declared.event_id.EventId.{EventId}
-use Rattle.traces.specs.Traces.{Placed, events_of, name_of}
+use Rattle.traces.specs.Traces.{Missed, Placed, events_of, name_of}
 use Rattle.msg_match.specs.declared.change.Tallies.{Tallies}
 use Rattle.msg_match.specs.Groups.{SeenGroup, SeenItem, are_ambiguous, each_once, events_with, group_of, groups_of, is_ambiguous, is_matched, is_unmatched, group_size}
 use Rattle.msg_match.specs.Parts.{total_of}
@@ -162,8 +161,8 @@ listed_in d ends =
     ∙ ap (λ (t : Tallies). t.ambiguous) (sums_are (items_in ends))
 
 -- the counts of each report make up its events
-pub added_up : (d : Declaration) (seen : List (List Seen)) (passed : List Passed) (consistent : Bool) → AddUp (report_of d seen passed consistent)
-added_up d seen passed consistent =
+pub added_up : (d : Declaration) (seen : List (List Seen)) (missed : List Missed) (consistent : Bool) → AddUp (report_of d seen missed consistent)
+added_up d seen missed consistent =
     let events : List Placed = events_of seen in
     let ends : List End = ends_among events in
     omega (arith, keyed_or_not events, told ends, messages_many events, listed_in d ends)

@@ -1,6 +1,6 @@
 -- The text of a key is ASCII.
 use Rattle.std.proofs.Common.{◌≡◌, ◌<◌, ◌+◌, ◌/◌, ◌%◌, ◌^◌, ℕ, zero, suc, List, [], ◌∷◌, ◌++◌, map, Bool, true, ◌&&◌, refl, arith}
-use Rattle.std.specs.Prelude.{nat_lt, codes}
+use Rattle.std.specs.Prelude.{Option, Some, None, nat_lt, codes}
 use Rattle.std.specs.Str.{IsAscii}
 use Rattle.std.specs.List.{AllByRecursion}
 use Rattle.std.specs.Int.{IsInRange}
@@ -15,11 +15,13 @@ use Rattle.atto.specs.Decimal.{decimal_of}
 use Rattle.line_format.specs.Words.{words}
 use Rattle.headers.specs.declared.key.Network.{Network}
 use Rattle.headers.specs.declared.key.Network.TheVariants.{V4, V6}
+use Rattle.headers.specs.declared.key.Piece.{Piece}
+use Rattle.headers.specs.declared.key.Ports.{Ports}
 use Rattle.headers.specs.declared.key.Segment.{Segment}
-use Rattle.headers.specs.declared.key.Transport.TheVariants.{Tcp, Udp}
+use Rattle.headers.specs.declared.key.Transport.TheVariants.{Fragment, Tcp, Udp}
 use Rattle.headers.specs.declared.key.UserDatagram.{UserDatagram}
 use Rattle.event_log.specs.Texts.{IsWordKey}
-use Rattle.report.specs.KeyTexts.{datagram_words, dotted, endpoint, four_groups, groups, hex_digit, network_words, option_words, packet_words, payload_word, quad, segment_words, wide_endpoint}
+use Rattle.report.specs.KeyTexts.{address_words, datagram_words, dotted, endpoint, four_groups, groups, hex_digit, network_words, option_words, packet_words, payload_word, piece_words, port_words, quad, segment_words, wide_endpoint}
 
 -- ---- by a test
 abbrev all_low : List ℕ → Bool
@@ -80,10 +82,12 @@ ascii_four n =
     let three : IsAscii (a ++ 58 ∷ b ++ 58 ∷ c) = joined (a ++ 58 ∷ b) c 58 (omega arith) two (ascii_quad (n / 2 ^ 16)) in
     joined (a ++ 58 ∷ b ++ 58 ∷ c) (quad n) 58 (omega arith) three (ascii_quad n)
 
+ascii_groups : (address : ℕ) → IsAscii (groups address)
+ascii_groups address = joined (four_groups (address / 2 ^ 64)) (four_groups address) 58 (omega arith) (ascii_four (address / 2 ^ 64)) (ascii_four address)
+
 ascii_wide_endpoint : (address port : ℕ) → IsAscii (wide_endpoint address port)
 ascii_wide_endpoint address port =
-    let both : IsAscii (groups address) = joined (four_groups (address / 2 ^ 64)) (four_groups address) 58 (omega arith) (ascii_four (address / 2 ^ 64)) (ascii_four address) in
-    IsAscii-cons 91 (groups address ++ 93 ∷ 58 ∷ decimal_of port) (omega arith) (joined (groups address) (58 ∷ decimal_of port) 93 (omega arith) both (IsAscii-cons 58 (decimal_of port) (omega arith) (ascii_decimal port)))
+    IsAscii-cons 91 (groups address ++ 93 ∷ 58 ∷ decimal_of port) (omega arith) (joined (groups address) (58 ∷ decimal_of port) 93 (omega arith) (ascii_groups address) (IsAscii-cons 58 (decimal_of port) (omega arith) (ascii_decimal port)))
 
 ascii_words : (ws : List (List ℕ)) → AllByRecursion IsAscii ws → IsAscii (words ws)
 ascii_words [] all = IsAscii-nil
@@ -109,6 +113,21 @@ pub ascii_udp : (n : Network) (d : UserDatagram) → IsAscii (payload_word d.pay
 ascii_udp n d payload =
     let fields : AllByRecursion IsAscii (datagram_words d) = (by_test (codes "length") refl, (ascii_decimal d.length, (by_test (codes "payload") refl, (payload, tt)))) in
     ascii_words (packet_words n (Udp d)) (by_test (codes "udp") refl, ascii_network n d.source_port d.target_port (datagram_words d) fields)
+
+ascii_addresses : (n : Network) (more : List (List ℕ)) → AllByRecursion IsAscii more → AllByRecursion IsAscii (address_words n ++ more)
+ascii_addresses (V4 source target id) more rest = (ascii_dotted source, (ascii_dotted target, rest))
+ascii_addresses (V6 source target) more rest = (ascii_groups source, (ascii_groups target, rest))
+
+ascii_ports : (o : Option Ports) (more : List (List ℕ)) → AllByRecursion IsAscii more → AllByRecursion IsAscii (port_words o ++ more)
+ascii_ports None more rest = rest
+ascii_ports (Some p) more rest = (by_test (codes "from") refl, (ascii_decimal p.source, (by_test (codes "to") refl, (ascii_decimal p.target, rest))))
+
+pub ascii_fragment : (n : Network) (p : Piece) → IsAscii (payload_word p.payload.items) → IsAscii (words (packet_words n (Fragment p)))
+ascii_fragment n p payload =
+    let bytes : List (List ℕ) = codes "payload" ∷ payload_word p.payload.items ∷ [] in
+    let last : AllByRecursion IsAscii (port_words p.ports ++ bytes) = ascii_ports p.ports bytes (by_test (codes "payload") refl, (payload, tt)) in
+    let fields : AllByRecursion IsAscii (piece_words p) = (by_test (codes "id") refl, (ascii_decimal p.id, (by_test (codes "protocol") refl, (ascii_decimal p.protocol, (by_test (codes "offset") refl, (ascii_decimal p.offset, (by_test (codes "length") refl, (ascii_decimal p.length, last)))))))) in
+    ascii_words (packet_words n (Fragment p)) (by_test (codes "fragment") refl, ascii_addresses n (piece_words p) fields)
 
 low_print : (c : ℕ) → IsInRange 33 126 c → c < 128
 low_print c range = grind arith

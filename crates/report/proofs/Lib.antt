@@ -14,3 +14,4 @@ mod Adding
 mod WorkedViews
 mod Joined
 mod PassedLabels
+mod DroppedLabels

@@ -3,9 +3,9 @@ use Rattle.std.proofs.Common.{◌≡◌, ◌<◌, ◌≤◌, ◌+◌, ◌*◌, �
 use Rattle.std.specs.Prelude.{sum_by}
 use Rattle.std.proofs.lemmas.List.{get_or-map, length-map}
 use Rattle.std.proofs.lemmas.List.Sums.{sum_by_more}
-use Rattle.captures.specs.Capture.{Passed}
 use Rattle.traces.specs.declared.accepted.Accepted.{Accepted}
-use Rattle.traces.specs.Held.{passed_by, passed_in}
+use Rattle.traces.specs.Traces.{Missed}
+use Rattle.traces.specs.Held.{missed_by, missed_in, passed_by}
 use Rattle.report.specs.declared.view.PassedSums.{PassedSums}
 use Rattle.report.specs.Reports.{passed_sums}
 use Rattle.report.specs.Inside.{AreOfLabels, sums_with}
@@ -22,21 +22,21 @@ more_labels m n s le are =
     record { simple = omega (arith, le, simple); obsolete = omega (arith, le, obsolete); other = omega (arith, le, other) }
 
 module _ (accepted : List Accepted) (i : ℕ) (x : Accepted) (inside : i < length accepted) (is : x ≡ get_or accepted i x) where
-  passed : Accepted → Passed
-  passed a = passed_by a.stream
+  missed : Accepted → Missed
+  missed a = missed_by a.stream
 
-  within : i < length (passed_in accepted)
-  unfolding passed
-  within = subst (λ (k : ℕ). i < k) (sym (length-map accepted passed)) inside
+  within : i < length (missed_in accepted)
+  unfolding missed
+  within = subst (λ (k : ℕ). i < k) (sym (length-map accepted missed)) inside
 
-  at : get_or (passed_in accepted) i (passed x) ≡ passed x
-  unfolding passed
-  at = get_or-map passed accepted i x (passed x) inside ∙ ap passed (sym is)
+  at : get_or (missed_in accepted) i (missed x) ≡ missed x
+  unfolding missed
+  at = get_or-map missed accepted i x (missed x) inside ∙ ap missed (sym is)
 
-  part : (f : Passed → ℕ) → sum_by f (take (i + 1) (passed_in accepted)) ≡ sum_by f (take i (passed_in accepted)) + f (passed_by x.stream)
-  unfolding passed
-  part f = sum_by_more f (passed_in accepted) i (passed x) within ∙ ap (λ (p : Passed). sum_by f (take i (passed_in accepted)) + f p) at
+  part : (f : Missed → ℕ) → sum_by f (take (i + 1) (missed_in accepted)) ≡ sum_by f (take i (missed_in accepted)) + f (missed_by x.stream)
+  unfolding missed
+  part f = sum_by_more f (missed_in accepted) i (missed x) within ∙ ap (λ (m : Missed). sum_by f (take i (missed_in accepted)) + f m) at
 
   -- the sums with the label at a place are those of the labels before it and its own
-  pub label_more : passed_sums (take (i + 1) (passed_in accepted)) ≡ sums_with (passed_sums (take i (passed_in accepted))) (passed_by x.stream)
-  label_more = same_sums (part (λ (p : Passed). p.simple)) (part (λ (p : Passed). p.obsolete)) (part (λ (p : Passed). p.other))
+  pub label_more : passed_sums (take (i + 1) (missed_in accepted)) ≡ sums_with (passed_sums (take i (missed_in accepted))) (passed_by x.stream)
+  label_more = same_sums (part (λ (m : Missed). m.passed.simple)) (part (λ (m : Missed). m.passed.obsolete)) (part (λ (m : Missed). m.passed.other))

@@ -1,8 +1,9 @@
--- The texts of four keys, worked out.
-use Rattle.std.proofs.Common.{◌≡◌, [], ◌∷◌, codes, refl}
+-- The texts of six keys, worked out.
+use Rattle.std.proofs.Common.{◌≡◌, [], ◌∷◌, Some, None, codes, refl}
 use Rattle.headers.specs.declared.key.Network.TheVariants.{V4, V6}
+use Rattle.headers.specs.declared.key.Piece.{Piece}
 use Rattle.headers.specs.declared.key.Segment.{Segment}
-use Rattle.headers.specs.declared.key.Transport.TheVariants.{Tcp, Udp}
+use Rattle.headers.specs.declared.key.Transport.TheVariants.{Fragment, Tcp, Udp}
 use Rattle.headers.specs.declared.key.UserDatagram.{UserDatagram}
 use Rattle.traces.specs.Seen.{Packet, Word}
 use Rattle.report.specs.KeyTexts.{key_text}
@@ -35,3 +36,25 @@ worked_tcp = refl
 worked_wide : key_text (Packet (record { network = V6 0xfd000000000000000000000000000001 0xfd000000000000000000000000000002; transport = Udp empty }))
     ≡ codes "udp [fd00:0000:0000:0000:0000:0000:0000:0001]:5000 [fd00:0000:0000:0000:0000:0000:0000:0002]:6000 length 8 payload -"
 worked_wide = refl
+
+-- the first and the last fragment of a datagram of 1,508 bytes
+abbrev first_piece : Piece
+first_piece = record {
+  protocol = 17;
+  id = 7;
+  offset = 0;
+  length = 1480;
+  ports = Some (record { source = 5000; target = 6000 });
+  payload = record { items = 15 ∷ 160 ∷ [] };
+}
+
+worked_first_piece : key_text (Packet (record { network = V4 167838211 3232236542 7; transport = Fragment first_piece }))
+    ≡ codes "fragment 10.1.2.3 192.168.3.254 id 7 protocol 17 offset 0 length 1480 from 5000 to 6000 payload 0fa0"
+worked_first_piece = refl
+
+abbrev last_piece : Piece
+last_piece = record { protocol = 17; id = 70000; offset = 185; length = 28; ports = None; payload = record { items = [] } }
+
+worked_last_piece : key_text (Packet (record { network = V6 0xfd000000000000000000000000000001 0xfd000000000000000000000000000002; transport = Fragment last_piece }))
+    ≡ codes "fragment fd00:0000:0000:0000:0000:0000:0000:0001 fd00:0000:0000:0000:0000:0000:0000:0002 id 70000 protocol 17 offset 185 length 28 payload -"
+worked_last_piece = refl

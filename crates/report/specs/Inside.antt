@@ -1,6 +1,7 @@
 -- What the parts of a report promise each other.
-use Rattle.std.specs.Prelude.{ℕ, ◌+◌, ◌*◌, ◌^◌, ◌<◌, ◌≤◌, List, length, map, count_by, All}
+use Rattle.std.specs.Prelude.{ℕ, ◌+◌, ◌*◌, ◌^◌, ◌<◌, ◌≤◌, List, [], ◌∷◌, length, map, count_by, cond, codes, All}
 use Rattle.captures.specs.Capture.{Passed}
+use Rattle.serde_json.specs.Data.{Members, boolean, member, no_members, put}
 use Rattle.decl.specs.Declaration.{Declaration}
 use Rattle.traces.specs.declared.event.NoKey.{NoKey}
 use Rattle.traces.specs.Seen.{Seen, key_of}
@@ -9,6 +10,7 @@ use Rattle.roster.specs.Roster.{RosterLists, id_of}
 use Rattle.msg_match.specs.Ambiguous.{EndGroup}
 use Rattle.report.specs.declared.ambiguous.Ambiguous.{Ambiguous}
 use Rattle.report.specs.declared.view.PassedSums.{PassedSums}
+use Rattle.report.specs.Report.{Reported, ReportedDrops, count, dropped_data, groups_data, nokey_data, passed_data, passes_none}
 use Rattle.report.specs.Reports.{has_no_key_for}
 
 -- the names of all events, as they came
@@ -44,3 +46,24 @@ pub record AreOfLabels (labels : ℕ) (s : PassedSums) : Type 0 where
   pub simple : s.simple ≤ labels * 2 ^ 32
   pub obsolete : s.obsolete ≤ labels * 2 ^ 32
   pub other : s.other ≤ labels * 2 ^ 32
+
+-- ---- the members of a report
+-- those that every report has
+abbrev pub all_members : Reported → Members
+all_members v =
+    member (codes "ambiguous") (groups_data v.groups) (
+    member (codes "consistent") (boolean v.consistent) (
+    member (codes "events") (count v.events) (
+    member (codes "messages") (count v.messages) (
+    member (codes "nokey") (nokey_data v.nokeys) (
+    member (codes "unmatched") (count v.unmatched)
+    no_members)))))
+
+-- these with the labels under which packets were dropped, if there are any
+abbrev pub put_dropped : List ReportedDrops → Members → Members
+put_dropped [] members = members
+put_dropped (d ∷ ds) members = put (codes "dropped") (dropped_data (d ∷ ds)) members
+
+-- these with the packets that were passed over, if there are any
+abbrev pub put_passed : PassedSums → Members → Members
+put_passed p members = cond (passes_none p) members (put (codes "passed") (passed_data p) members)

@@ -1,13 +1,15 @@
 -- The text of a key.
-use Rattle.std.specs.Prelude.{ℕ, ◌+◌, ◌^◌, ◌/◌, ◌%◌, List, [], ◌∷◌, ◌++◌, nat_lt, if◌then◌else◌, codes}
+use Rattle.std.specs.Prelude.{ℕ, ◌+◌, ◌^◌, ◌/◌, ◌%◌, List, [], ◌∷◌, ◌++◌, Option, Some, None, nat_lt, if◌then◌else◌, codes}
 use Rattle.std.specs.List.{flat_map}
 use Rattle.atto.specs.Decimal.{decimal_of}
 use Rattle.line_format.specs.Words.{words}
 use Rattle.headers.specs.declared.key.Network.{Network}
 use Rattle.headers.specs.declared.key.Network.TheVariants.{V4, V6}
+use Rattle.headers.specs.declared.key.Piece.{Piece}
+use Rattle.headers.specs.declared.key.Ports.{Ports}
 use Rattle.headers.specs.declared.key.Segment.{Segment}
 use Rattle.headers.specs.declared.key.Transport.{Transport}
-use Rattle.headers.specs.declared.key.Transport.TheVariants.{Tcp, Udp}
+use Rattle.headers.specs.declared.key.Transport.TheVariants.{Fragment, Tcp, Udp}
 use Rattle.headers.specs.declared.key.UserDatagram.{UserDatagram}
 use Rattle.traces.specs.Seen.{EventKey, Packet, Word}
 
@@ -67,10 +69,26 @@ segment_words s = codes "seq" ∷ decimal_of s.sequence ∷ codes "ack" ∷ deci
 abbrev pub datagram_words : UserDatagram → List (List ℕ)
 datagram_words d = codes "length" ∷ decimal_of d.length ∷ codes "payload" ∷ payload_word d.payload.items ∷ []
 
+-- the words of both addresses
+abbrev pub address_words : Network → List (List ℕ)
+address_words (V4 source target id) = dotted source ∷ dotted target ∷ []
+address_words (V6 source target) = groups source ∷ groups target ∷ []
+
+-- the words of the ports of a first fragment
+abbrev pub port_words : Option Ports → List (List ℕ)
+port_words None = []
+port_words (Some p) = codes "from" ∷ decimal_of p.source ∷ codes "to" ∷ decimal_of p.target ∷ []
+
+-- the words of a fragment behind its addresses
+abbrev pub piece_words : Piece → List (List ℕ)
+piece_words p = codes "id" ∷ decimal_of p.id ∷ codes "protocol" ∷ decimal_of p.protocol ∷ codes "offset" ∷ decimal_of p.offset
+    ∷ codes "length" ∷ decimal_of p.length ∷ port_words p.ports ++ codes "payload" ∷ payload_word p.payload.items ∷ []
+
 -- the words of a packet
 abbrev pub packet_words : Network → Transport → List (List ℕ)
 packet_words network (Tcp s) = codes "tcp" ∷ network_words network s.source_port s.target_port ++ segment_words s
 packet_words network (Udp d) = codes "udp" ∷ network_words network d.source_port d.target_port ++ datagram_words d
+packet_words network (Fragment p) = codes "fragment" ∷ address_words network ++ piece_words p
 
 -- the words of a key
 abbrev pub key_words : EventKey → List (List ℕ)

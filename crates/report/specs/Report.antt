@@ -5,6 +5,8 @@ use Rattle.std.specs.Str.{IsAscii}
 use Rattle.serde_json.specs.Data.{Data, Members, boolean, number, unsigned, string, array, object, member, no_members}
 use Rattle.serde_json.specs.View.{items_of}
 use Rattle.serde_json.specs.Written.{compact_text}
+use Rattle.captures.specs.Capture.{Dropped}
+use Rattle.report.specs.declared.view.LabelDrops.{LabelDrops}
 use Rattle.report.specs.declared.view.NoKeys.{NoKeys}
 use Rattle.report.specs.declared.view.NamedGroup.{NamedGroup}
 use Rattle.report.specs.declared.view.PassedSums.{PassedSums}
@@ -16,12 +18,18 @@ pub record ReportedKey : Type 0 where
   pub sends : List (List ℕ)
   pub receives : List (List ℕ)
 
+-- a label under which packets were dropped before they were captured, and how many
+pub record ReportedDrops : Type 0 where
+  pub label : List ℕ
+  pub dropped : Dropped
+
 -- all that is reported
 pub record Reported : Type 0 where
   pub events : ℕ
   pub messages : ℕ
   pub unmatched : ℕ
   pub consistent : Bool
+  pub dropped : List ReportedDrops
   pub nokeys : NoKeys
   pub passed : PassedSums
   pub groups : List ReportedKey
@@ -59,6 +67,23 @@ nokey_data n = object (
     member (codes "side") (count n.side)
     no_members))))))))
 
+-- how many packets were dropped under a label, by where
+abbrev pub drops_data : ReportedDrops → Data
+drops_data d = object (
+    member (codes "interface") (count d.dropped.interface) (
+    member (codes "label") (string d.label) (
+    member (codes "system") (count d.dropped.system)
+    no_members)))
+
+-- the same for each of these labels
+abbrev pub dropped_data : List ReportedDrops → Data
+dropped_data ds = array (items_of (map drops_data ds))
+
+-- their member and more members; where there are none, these alone
+abbrev pub with_dropped : List ReportedDrops → Members → Members
+with_dropped [] more = more
+with_dropped (d ∷ ds) more = member (codes "dropped") (dropped_data (d ∷ ds)) more
+
 -- how many packets were passed over, by cause
 abbrev pub passed_data : PassedSums → Data
 passed_data p = object (
@@ -75,23 +100,22 @@ passes_none p = (p.obsolete == 0) && (p.other == 0) && (p.simple == 0)
 abbrev pub with_passed : PassedSums → Members → Members
 with_passed p more = cond (passes_none p) more (member (codes "passed") (passed_data p) more)
 
--- the members that every report begins with, and more members
-abbrev pub first_members : Reported → Members → Members
-first_members v more =
+-- the members of a report, its keys in the order of their bytes
+abbrev pub report_members : Reported → Members
+report_members v =
     member (codes "ambiguous") (groups_data v.groups) (
     member (codes "consistent") (boolean v.consistent) (
+    with_dropped v.dropped (
     member (codes "events") (count v.events) (
     member (codes "messages") (count v.messages) (
-    member (codes "nokey") (nokey_data v.nokeys)
-    more))))
+    member (codes "nokey") (nokey_data v.nokeys) (
+    with_passed v.passed (
+    member (codes "unmatched") (count v.unmatched)
+    no_members)))))))
 
--- the member that every report ends with
-abbrev pub last_member : Reported → Members
-last_member v = member (codes "unmatched") (count v.unmatched) no_members
-
--- the whole report, its keys in the order of their bytes
+-- the whole report
 abbrev pub report_data : Reported → Data
-report_data v = object (first_members v (with_passed v.passed (last_member v)))
+report_data v = object (report_members v)
 
 -- its text, without spaces, and a line feed
 abbrev pub report_line : Reported → List ℕ
@@ -102,6 +126,10 @@ report_line v = compact_text (report_data v) ++ 10 ∷ []
 abbrev pub reported_key : NamedGroup → ReportedKey
 reported_key g = record { key = g.key.items; sends = g.sends.items; receives = g.receives.items }
 
+-- a label with its packets that were dropped
+abbrev pub reported_drops : LabelDrops → ReportedDrops
+reported_drops d = record { label = d.label; dropped = d.dropped }
+
 -- all of it
 abbrev pub reported : View → Reported
 reported v = record {
@@ -109,6 +137,7 @@ reported v = record {
   messages = v.messages;
   unmatched = v.unmatched;
   consistent = v.consistent;
+  dropped = map reported_drops v.dropped.items;
   nokeys = v.nokeys;
   passed = v.passed;
   groups = map reported_key v.groups.items;

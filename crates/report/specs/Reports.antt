@@ -1,17 +1,18 @@
--- What is reported of the events of all labels, and of the packets that were passed over.
-use Rattle.std.specs.Prelude.{ℕ, List, length, map, count_by, sum_by, Bool, true, false}
-use Rattle.captures.specs.Capture.{Passed}
+-- What is reported of the events of all labels, and of the packets that have none.
+use Rattle.std.specs.Prelude.{ℕ, List, [], ◌∷◌, ◌++◌, length, map, count_by, sum_by, Bool, true, false, cond, ◌==◌, ◌&&◌}
+use Rattle.captures.specs.Capture.{Dropped}
+use Rattle.decl.specs.declared.items.Label.{Label}
 use Rattle.decl.specs.Declaration.{Declaration}
 use Rattle.traces.specs.declared.event.NoKey.{NoKey}
 use Rattle.traces.specs.declared.event.NoKey.TheVariants as without
 use Rattle.traces.specs.Seen.{SeenMark, Keyed, Unkeyed, Seen}
-use Rattle.traces.specs.Traces.{Placed, events_of, name_of}
+use Rattle.traces.specs.Traces.{Missed, Placed, events_of, name_of}
 use Rattle.traces.specs.Messages.{messages_of}
 use Rattle.msg_match.specs.Ends.{ends_among}
 use Rattle.msg_match.specs.Ambiguous.{EndGroup, ambiguous_ends, tallies_of}
 use Rattle.report.specs.declared.view.NoKeys.{NoKeys}
 use Rattle.report.specs.declared.view.PassedSums.{PassedSums}
-use Rattle.report.specs.Report.{Reported, ReportedKey, report_line}
+use Rattle.report.specs.Report.{Reported, ReportedDrops, ReportedKey, report_line}
 use Rattle.report.specs.KeyTexts.{key_text}
 
 -- ---- events with keys
@@ -56,29 +57,45 @@ nokeys_of events = record {
 
 -- ---- packets that were passed over
 -- how many there are by cause, by how many there are under each label
-abbrev pub passed_sums : List Passed → PassedSums
+abbrev pub passed_sums : List Missed → PassedSums
 passed_sums labels = record {
-  simple = sum_by (λ (p : Passed). p.simple) labels;
-  obsolete = sum_by (λ (p : Passed). p.obsolete) labels;
-  other = sum_by (λ (p : Passed). p.other) labels;
+  simple = sum_by (λ (m : Missed). m.passed.simple) labels;
+  obsolete = sum_by (λ (m : Missed). m.passed.obsolete) labels;
+  other = sum_by (λ (m : Missed). m.passed.other) labels;
 }
 
+-- ---- packets that were dropped
+-- none were
+abbrev pub drops_none : Dropped → Bool
+drops_none d = d.interface == 0 && d.system == 0
+
+-- a label, if packets were dropped under it
+abbrev pub drops_under : Label → Dropped → List ReportedDrops
+drops_under label d = cond (drops_none d) [] (record { label = label.name; dropped = d } ∷ [])
+
+-- the labels under which packets were dropped, by how many there are under each
+abbrev pub drops_of : List Label → List Missed → List ReportedDrops
+drops_of [] missed = []
+drops_of (label ∷ labels) [] = []
+drops_of (label ∷ labels) (m ∷ missed) = drops_under label m.dropped ++ drops_of labels missed
+
 -- ---- the report
--- what is reported of the events of all labels and of the packets that were passed over under each, by whether the problem has an
+-- what is reported of the events of all labels and of the packets under each that have none, by whether the problem has an
 -- execution; the ambiguous keys stand in the order of their first events, and the events of each in theirs
-abbrev pub report_of : Declaration → List (List Seen) → List Passed → Bool → Reported
-report_of d seen passed consistent =
+abbrev pub report_of : Declaration → List (List Seen) → List Missed → Bool → Reported
+report_of d seen missed consistent =
     let events = events_of seen in
     record {
       events = length events;
       messages = length (messages_of events);
       unmatched = (tallies_of (ends_among events)).unmatched;
       consistent = consistent;
+      dropped = drops_of d.labels missed;
       nokeys = nokeys_of events;
-      passed = passed_sums passed;
+      passed = passed_sums missed;
       groups = map (named_key d) (ambiguous_ends (ends_among events));
     }
 
 -- its line
-abbrev pub report_text : Declaration → List (List Seen) → List Passed → Bool → List ℕ
-report_text d seen passed consistent = report_line (report_of d seen passed consistent)
+abbrev pub report_text : Declaration → List (List Seen) → List Missed → Bool → List ℕ
+report_text d seen missed consistent = report_line (report_of d seen missed consistent)

@@ -17,8 +17,8 @@ pub(crate) fn push_decimal(text: &mut Vec<u8>, number: u32) -> Result<(), AllocE
     Ok(())
 }
 
-// Appends an IPv4 address: its four bytes as decimals, with dots between.
-fn push_dotted(text: &mut Vec<u8>, address: u32) -> Result<(), AllocError>
+/// Appends an IPv4 address: its four bytes as decimals, with dots between.
+pub(crate) fn push_dotted(text: &mut Vec<u8>, address: u32) -> Result<(), AllocError>
     ensures { OnOk result (text.new.items ≡ text.old.items ++ dotted address) }
 {
     push_decimal(text, address / 0x100_0000)?;
@@ -75,8 +75,8 @@ fn push_four_groups(text: &mut Vec<u8>, number: u128) -> Result<(), AllocError>
     Ok(())
 }
 
-// Appends an IPv6 address: eight groups of four digits, with colons between.
-fn push_groups(text: &mut Vec<u8>, address: u128) -> Result<(), AllocError>
+/// Appends an IPv6 address: eight groups of four digits, with colons between.
+pub(crate) fn push_groups(text: &mut Vec<u8>, address: u128) -> Result<(), AllocError>
     ensures { OnOk result (text.new.items ≡ text.old.items ++ groups address) }
 {
     push_four_groups(text, address / 0x1_0000_0000_0000_0000)?;

@@ -13,6 +13,7 @@ use std::alloc::{AllocError, Global};
 /// |---|---|
 /// | `ambiguous` | an array with an object for each ambiguous key: its text as `key`, and the names of its events as `receives` and `sends`, in the order of the view |
 /// | `consistent` | whether what is declared has an execution |
+/// | `dropped` | an array with an object for each label under which packets were dropped before they were captured: its name as `label`, and the fields of `Dropped` of `captures`; where none were, there is no such key |
 /// | `events`, `messages` | how many there are |
 /// | `nokey` | how many events have no key, by reason: an object with the fields of `NoKeys` |
 /// | `passed` | how many packets were passed over, by cause: an object with the fields of `PassedSums`; where none were, there is no such key |

@@ -1,6 +1,6 @@
 // How many packets were passed over.
 ghost use Rattle.std.specs.Prelude.{◌≡◌, ◌≤◌, ◌+◌, ℕ, length};
-ghost use Rattle.traces.specs.Held.{passed_in};
+ghost use Rattle.traces.specs.Held.{missed_in};
 ghost use Rattle.report.specs.Reports.{passed_sums};
 ghost use Rattle.report.specs.Inside.{AreOfLabels, sums_with};
 
@@ -24,7 +24,7 @@ fn sums_with(sums: PassedSums, more: Passed) -> PassedSums
 /// How many packets were passed over under all labels, by cause.
 pub(crate) fn passed_sums(accepted: &[Accepted]) -> PassedSums
     requires { length accepted.now ≤ 65536 }
-    ensures { result ≡ passed_sums (passed_in accepted.now) }
+    ensures { result ≡ passed_sums (missed_in accepted.now) }
 {
     let mut sums = PassedSums {
         simple: 0,

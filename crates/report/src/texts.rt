@@ -8,6 +8,7 @@ ghost use Rattle.headers.specs.declared.key.Transport.TheVariants.{Tcp, Udp};
 ghost use Rattle.traces.specs.Seen.{key_of, Packet, Word};
 ghost use Rattle.report.specs.KeyTexts.{datagram_words, endpoint, key_text, network_words, option_words, packet_words, payload_word, segment_words, wide_endpoint};
 
+use crate::fragments::fragment_text;
 use crate::key_parts::{push_decimal, push_endpoint, push_payload, push_wide_endpoint};
 use event_log::WordKey;
 use headers::{Network, PacketKey, Segment, Transport, UserDatagram};
@@ -33,8 +34,8 @@ fn push_wide_end(text: &mut Vec<u8>, address: u128, port: u16) -> Result<(), All
     Ok(())
 }
 
-// Appends the name of a field and its number.
-fn push_field(text: &mut Vec<u8>, name: &[u8], number: u32) -> Result<(), AllocError>
+/// Appends the name of a field and its number.
+pub(crate) fn push_field(text: &mut Vec<u8>, name: &[u8], number: u32) -> Result<(), AllocError>
     ensures { (first : List ℕ) (ws : List (List ℕ)) → text.old.items ≡ words (first ∷ ws) → OnOk result (text.new.items ≡ words (first ∷ ws ++ name.now ∷ decimal_of number ∷ [])) }
 {
     push_word(text, name)?;
@@ -43,8 +44,8 @@ fn push_field(text: &mut Vec<u8>, name: &[u8], number: u32) -> Result<(), AllocE
     Ok(())
 }
 
-// Appends bytes and their name.
-fn push_bytes(text: &mut Vec<u8>, name: &[u8], bytes: &[u8]) -> Result<(), AllocError>
+/// Appends bytes and their name.
+pub(crate) fn push_bytes(text: &mut Vec<u8>, name: &[u8], bytes: &[u8]) -> Result<(), AllocError>
     ensures text { (first : List ℕ) (ws : List (List ℕ)) → text.old.items ≡ words (first ∷ ws) → OnOk result (text.new.items ≡ words (first ∷ ws ++ name.now ∷ payload_word bytes.now ∷ [])) }
     ensures ascii { OnOk result (IsAscii (payload_word bytes.now)) }
 {
@@ -150,6 +151,7 @@ fn packet_text(alloc: Global, key: &PacketKey) -> Result<Vec<u8>, AllocError>
     match &key.transport {
         Transport::Tcp(segment) => tcp_text(alloc, key.network, segment),
         Transport::Udp(datagram) => udp_text(alloc, key.network, datagram),
+        Transport::Fragment(piece) => fragment_text(alloc, key.network, piece),
     }
 }
 
@@ -164,7 +166,8 @@ fn word_text(alloc: Global, word: &WordKey) -> Result<Vec<u8>, AllocError>
 }
 
 /// The text of a key, in ASCII; an error where memory runs out. It is `log` and the word of a message in event logs, or for
-/// a packet the protocol, both addresses with their ports, and the other fields of the key by their names.
+/// a packet the protocol, both addresses with their ports, and the other fields of the key by their names; for a fragment
+/// `fragment`, both addresses, and these fields.
 pub fn key_text(alloc: Global, key: &Key) -> Result<Vec<u8>, AllocError>
     ensures text { IfOk result (λ text. text.items ≡ key_text (key_of key.now)) }
     ensures ascii { IfOk result (λ text. IsAscii text.items) }

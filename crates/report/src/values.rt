@@ -1,13 +1,14 @@
 // The parts of a report as values of JSON.
-ghost use Rattle.std.specs.Prelude.{◌≡◌, All, IfOk, codes, map};
+ghost use Rattle.std.specs.Prelude.{◌≡◌, All, IfOk, OnOk, map};
 ghost use Rattle.std.specs.Str.{IsAscii};
-ghost use Rattle.serde_json.specs.Data.{member, object, string};
-ghost use Rattle.serde_json.specs.View.{view};
-ghost use Rattle.report.specs.Report.{HasAsciiKey, first_members, group_data, groups_data, last_member, nokey_data, passed_data, passes_none, report_data, reported, reported_key, texts};
+ghost use Rattle.serde_json.specs.Data.{string};
+ghost use Rattle.serde_json.specs.View.{members_view, view};
+ghost use Rattle.report.specs.Report.{HasAsciiKey, dropped_data, drops_data, group_data, groups_data, nokey_data, passed_data, passes_none, report_data, reported, reported_drops, reported_key, texts};
+ghost use Rattle.report.specs.Inside.{all_members, put_dropped, put_passed};
 
-use crate::{NamedGroup, NoKeys, PassedSums, View};
+use crate::{LabelDrops, NamedGroup, NoKeys, PassedSums, View};
 use problem_model::Name;
-use serde_json::{Value, json};
+use serde_json::{Map, Value, json, put};
 use std::alloc::{AllocError, Global};
 
 // A text in ASCII.
@@ -96,40 +97,72 @@ fn passed_value(alloc: Global, passed: &PassedSums) -> Result<Value, AllocError>
     })
 }
 
-// A report where no packet was passed over.
-fn report_on_all(alloc: Global, v: &View) -> Result<Value, AllocError>
-    requires { All HasAsciiKey v.now.groups.items }
-    ensures { IfOk result (λ value. view value ≡ object (first_members (reported v.now) (last_member (reported v.now)))) }
+// The numbers of packets that were dropped under a label.
+fn drops_value(alloc: Global, drops: &LabelDrops) -> Result<Value, AllocError>
+    ensures { IfOk result (λ value. view value ≡ drops_data (reported_drops drops.now)) }
 {
-    let ambiguous = groups_value(alloc, &v.groups)?;
-    let nokey = nokey_value(alloc, &v.nokeys)?;
+    let label = name_value(alloc, &drops.label)?;
     json!(in alloc; {
-        "ambiguous": ambiguous,
-        "consistent": v.consistent,
-        "events": v.events,
-        "messages": v.messages,
-        "nokey": nokey,
-        "unmatched": v.unmatched,
+        "interface": drops.dropped.interface,
+        "label": label,
+        "system": drops.dropped.system,
     })
 }
 
-// A report that tells of packets that were passed over.
-fn report_with_passed(alloc: Global, told: &View) -> Result<Value, AllocError>
-    requires { All HasAsciiKey told.now.groups.items }
-    ensures { IfOk result (λ value. view value ≡ object (first_members (reported told.now) (member (codes "passed") (passed_data told.now.passed) (last_member (reported told.now))))) }
+// The array of the labels under which packets were dropped.
+fn dropped_value(alloc: Global, dropped: &[LabelDrops]) -> Result<Value, AllocError>
+    ensures { IfOk result (λ value. view value ≡ dropped_data (map reported_drops dropped.now)) }
 {
-    let groups = groups_value(alloc, &told.groups)?;
-    let reasons = nokey_value(alloc, &told.nokeys)?;
-    let passed = passed_value(alloc, &told.passed)?;
-    json!(in alloc; {
-        "ambiguous": groups,
-        "consistent": told.consistent,
-        "events": told.events,
-        "messages": told.messages,
-        "nokey": reasons,
-        "passed": passed,
-        "unmatched": told.unmatched,
-    })
+    let mut values = Vec::with_capacity(alloc, dropped.len())?;
+    for drops in dropped {
+        values.push(drops_value(alloc, drops)?)?;
+    }
+    Ok(Value::from(values))
+}
+
+// The members that every report has.
+fn members_of(alloc: Global, v: &View) -> Result<Map<String, Value>, AllocError>
+    requires { All HasAsciiKey v.now.groups.items }
+    ensures { IfOk result (λ members. members_view members.entries ≡ all_members (reported v.now)) }
+{
+    let ambiguous = groups_value(alloc, &v.groups)?;
+    let nokey = nokey_value(alloc, &v.nokeys)?;
+    let mut members = Map::new(alloc);
+    put(&mut members, alloc, "ambiguous", ambiguous)?;
+    put(&mut members, alloc, "consistent", Value::from(v.consistent))?;
+    put(&mut members, alloc, "events", Value::from(v.events))?;
+    put(&mut members, alloc, "messages", Value::from(v.messages))?;
+    put(&mut members, alloc, "nokey", nokey)?;
+    put(&mut members, alloc, "unmatched", Value::from(v.unmatched))?;
+    Ok(members)
+}
+
+// Puts the labels under which packets were dropped, if there are any.
+fn put_dropped(
+    alloc: Global,
+    dropped: &[LabelDrops],
+    members: &mut Map<String, Value>,
+) -> Result<(), AllocError>
+    ensures { OnOk result (members_view members.new.entries ≡ put_dropped (map reported_drops dropped.now) (members_view members.old.entries)) }
+{
+    if dropped.is_empty() {
+        return Ok(());
+    }
+    put(members, alloc, "dropped", dropped_value(alloc, dropped)?)
+}
+
+// Puts the numbers of packets that were passed over, if there are any.
+fn put_passed(
+    alloc: Global,
+    passed: &PassedSums,
+    members: &mut Map<String, Value>,
+) -> Result<(), AllocError>
+    ensures { OnOk result (members_view members.new.entries ≡ put_passed passed.now (members_view members.old.entries)) }
+{
+    if passes_none(passed) {
+        return Ok(());
+    }
+    put(members, alloc, "passed", passed_value(alloc, passed)?)
 }
 
 // The whole report.
@@ -137,9 +170,8 @@ pub(crate) fn report_value(alloc: Global, v: &View) -> Result<Value, AllocError>
     requires { All HasAsciiKey v.now.groups.items }
     ensures { IfOk result (λ value. view value ≡ report_data (reported v.now)) }
 {
-    if passes_none(&v.passed) {
-        report_on_all(alloc, v)
-    } else {
-        report_with_passed(alloc, v)
-    }
+    let mut members = members_of(alloc, v)?;
+    put_dropped(alloc, &v.dropped, &mut members)?;
+    put_passed(alloc, &v.passed, &mut members)?;
+    Ok(Value::from(members))
 }

@@ -1,18 +1,20 @@
 // What is reported.
+use captures::Dropped;
 use problem_model::Name;
 
 /// How many events have no key, by reason.
 #[derive(Clone, Copy, Debug, Default, PartialEq, Eq)]
 pub struct NoKeys {
-    /// Packets of a link type that is neither Ethernet nor raw IP.
+    /// Packets of a link type that is neither Ethernet nor raw IP nor a Linux cooked one.
     pub link: u32,
-    /// Packets that are no IPv4 datagrams of TCP or UDP.
+    /// Packets without TCP or UDP right behind a header of IPv4 or IPv6, or, where fragments have keys, behind at most eight
+    /// extension headers.
     pub other: u32,
     /// Packets of which too little was captured.
     pub short: u32,
     /// Packets with a header that can't be one.
     pub header: u32,
-    /// Fragments of IPv4 datagrams (RFC 791).
+    /// Fragments of IPv4 datagrams (RFC 791), where fragments have no keys.
     pub fragment: u32,
     /// Packets with a length that does not fit the others.
     pub length: u32,
@@ -31,6 +33,15 @@ pub struct PassedSums {
     pub obsolete: u64,
     /// Other records that count as packets.
     pub other: u64,
+}
+
+/// A label under which packets were dropped before they were captured, and how many.
+#[derive(Clone, Copy, Debug)]
+pub struct LabelDrops {
+    /// The label's name.
+    pub label: Name,
+    /// How many packets its capture says were dropped.
+    pub dropped: Dropped,
 }
 
 /// An ambiguous key, with the events that have it.
@@ -55,6 +66,8 @@ pub struct View {
     pub unmatched: u32,
     /// Whether what is declared has an execution.
     pub consistent: bool,
+    /// The labels under which packets were dropped, in their order.
+    pub dropped: Vec<LabelDrops>,
     /// How many events have no key.
     pub nokeys: NoKeys,
     /// How many packets were passed over.

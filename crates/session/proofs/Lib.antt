@@ -11,7 +11,7 @@ pub mod Accepting
 pub mod Standing
 pub mod Finding
 mod Opening
-mod PassedPackets
+mod MissedPackets
 mod Additions
 mod ToldMessages
 mod AddedThere

@@ -1,14 +1,13 @@
 -- Replies of a session that stands for traces.
 use Rattle.std.proofs.Common.{◌≡◌, ℕ, ◌≤◌, List, [], ◌∷◌, length, map, Option, Some, None, IfSome, true, nat_le, refl, sym, ◌∙◌, ap, subst, arith}
 use Rattle.ports.specs.Files.{Content, FilesTold, Keeps}
-use Rattle.captures.specs.Capture.{Passed}
 use Rattle.decl.specs.Declaration.{Declaration, IsDeclaration}
 use Rattle.traces.specs.Seen.{Seen}
 use Rattle.traces.specs.declared.accepted.Accepted.{Accepted}
 use Rattle.traces.specs.declared.event_id.EventId.{EventId}
 use Rattle.solver.specs.Solver.{SolverLists}
-use Rattle.traces.specs.Traces.{passed_of, seen_by}
-use Rattle.traces.specs.Held.{passed_in, seen_in}
+use Rattle.traces.specs.Traces.{Missed, missed_of, seen_by}
+use Rattle.traces.specs.Held.{missed_in, seen_in}
 use Rattle.traces.specs.Messages.{problem_of, problem_of_seen}
 use Rattle.queries.specs.Clocks.{KeepsTime}
 use Rattle.replies.specs.declared.refusal.Refusal.TheVariants.{NoCommand}
@@ -20,7 +19,7 @@ use Rattle.session.specs.Stands.{Held, StandsFor, Stepped, held_parts}
 use Rattle.session.specs.Inside.{UnreadAnswered, CommandAnswered}
 use Rattle.session.proofs.Telling.{Told}
 use Rattle.session.proofs.Holding.{seen_accepted}
-use Rattle.session.proofs.PassedPackets.{passed_same}
+use Rattle.session.proofs.MissedPackets.{missed_same}
 
 -- ---- questions
 -- whatever answers stand ready, the session stands for the same
@@ -44,13 +43,13 @@ by_events d accepted kept before x s stands P is =
     subst (λ (seen : List (List Seen)). P x seen) (sym (seen_accepted accepted) ∙ stands.events) here
 
 -- what answers a question about what is held is a reply, whatever events are kept and whatever answers stand ready
-pub answered : (d : Declaration) (accepted : List Accepted) (q : Question) (IsWritten : List ℕ → Type 0) → Told (IsAnswerTo q d (seen_in accepted) (passed_in accepted)) IsWritten →
+pub answered : (d : Declaration) (accepted : List Accepted) (q : Question) (IsWritten : List ℕ → Type 0) → Told (IsAnswerTo q d (seen_in accepted) (missed_in accepted)) IsWritten →
     (kept : List EventId) (before after : Option SolverLists) → UnreadAnswered (held_parts d accepted kept before) (held_parts d accepted kept after) (Ask q) IsWritten
 answered d accepted q IsWritten says kept before after x s stands =
-    let seen : IsAnswerTo q x (seen_by x s.traces) (passed_in accepted) says.0 =
-    by_events d accepted kept before x s stands (λ (y : Declaration) (seen : List (List Seen)). IsAnswerTo q y seen (passed_in accepted) says.0) says.1 in
-    let passed : passed_in accepted ≡ map passed_of s.traces = passed_same (held_parts d accepted kept before) accepted x s refl stands in
-    (says.0, s, (refl, refl, subst (λ (ps : List Passed). IsAnswerTo q x (seen_by x s.traces) ps says.0) passed seen), says.2, other_answers d accepted kept before after x s stands)
+    let seen : IsAnswerTo q x (seen_by x s.traces) (missed_in accepted) says.0 =
+    by_events d accepted kept before x s stands (λ (y : Declaration) (seen : List (List Seen)). IsAnswerTo q y seen (missed_in accepted) says.0) says.1 in
+    let missed : missed_in accepted ≡ map missed_of s.traces = missed_same (held_parts d accepted kept before) accepted x s refl stands in
+    (says.0, s, (refl, refl, subst (λ (ms : List Missed). IsAnswerTo q x (seen_by x s.traces) ms says.0) missed seen), says.2, other_answers d accepted kept before after x s stands)
 
 -- the clock of a declared source is never short or long in the problem of what is held
 pub source_keeps : (d : Declaration) (accepted : List Accepted) → IsDeclaration d → IfSome d.source (λ clock. KeepsTime (problem_of_seen d (seen_in accepted)) clock)

@@ -4,7 +4,7 @@ ghost use Rattle.problem_model.specs.Limits.{most_events};
 ghost use Rattle.ports.specs.Content.{WritesSuch};
 ghost use Rattle.traces.specs.declared.event_id.EventId.{EventId};
 ghost use Rattle.traces.specs.Traces.{event_count};
-ghost use Rattle.traces.specs.Held.{passed_in, seen_in};
+ghost use Rattle.traces.specs.Held.{missed_in, seen_in};
 ghost use Rattle.queries.specs.declared.stop.Stop.TheVariants as stops;
 ghost use Rattle.replies.specs.Commands as commands;
 ghost use Rattle.replies.specs.Commands.{TakesMemory, IsReadOff, question_seen};
@@ -36,7 +36,7 @@ pub(crate) fn answer<O: Sink, L: Ledger>(
     requires labels { length accepted.now ≡ length (declared answers.old).labels }
     requires few { event_count (seen_in accepted.now) ≤ most_events }
     requires ready { (kept : List EventId) × AreAnswersOf (seen_in accepted.now) kept answers.old }
-    ensures writes { WritesSuch (IsAnswerTo (question_seen question.entry) (declared answers.old) (seen_in accepted.now) (passed_in accepted.now))
+    ensures writes { WritesSuch (IsAnswerTo (question_seen question.entry) (declared answers.old) (seen_in accepted.now) (missed_in accepted.now))
         stops.WriteFault (O.told out.old) (O.told out.new) result }
     ensures roster { answers.new.graph.roster ≡ answers.old.graph.roster }
     ensures ready { (kept : List EventId) → AreAnswersOf (seen_in accepted.now) kept answers.old → AreAnswersOf (seen_in accepted.now) kept answers.new }

@@ -1,9 +1,9 @@
-// The report on all events and on the packets that were passed over.
+// The report on all events and on the packets that have none.
 ghost use Rattle.std.specs.Prelude.{◌≡◌, ◌≤◌, length, map, IsErrOf};
 ghost use Rattle.problem_model.specs.Limits.{most_events};
 ghost use Rattle.ports.specs.Content.{WritesSuch};
 ghost use Rattle.traces.specs.Traces.{event_count};
-ghost use Rattle.traces.specs.Held.{passed_in, seen_in};
+ghost use Rattle.traces.specs.Held.{missed_in, seen_in};
 ghost use Rattle.traces.specs.Messages.{problem_of_seen};
 ghost use Rattle.msg_match.specs.Ends.{AreEndsBy};
 ghost use Rattle.problem.specs.Listing.{Listed};
@@ -23,7 +23,7 @@ use std::alloc::Global;
 use traces::Accepted;
 
 /// Writes the report on all events, of which the roster has the declaration and the names by number, and the matcher the ends of
-/// messages, and the solver holds the answer; and on the packets that were passed over.
+/// messages, and the solver holds the answer; and on the packets that have none.
 pub(crate) fn write_report<O: Sink>(
     alloc: Global,
     accepted: &[Accepted],
@@ -36,7 +36,7 @@ pub(crate) fn write_report<O: Sink>(
     requires few { event_count (seen_in accepted.now) ≤ most_events }
     requires ends { AreEndsBy (map id_of roster.now.came) matcher.now (seen_in accepted.now) }
     requires solution { (l : Listed) × IsSolutionBy l (problem_of_seen roster.now.declaration (seen_in accepted.now)) solver.now }
-    ensures writes { WritesSuch (IsReport roster.now.declaration (seen_in accepted.now) (passed_in accepted.now)) stops.WriteFault (O.told out.old) (O.told out.new) result }
+    ensures writes { WritesSuch (IsReport roster.now.declaration (seen_in accepted.now) (missed_in accepted.now)) stops.WriteFault (O.told out.old) (O.told out.new) result }
     ensures untouched { IsErrOf result stops.Memory → O.told out.new ≡ O.told out.old }
 {
     let consistent = is_consistent(solver);

@@ -114,7 +114,7 @@ mark_of_packet d host (Err reason) = Unkeyed (no_key reason)
 
 -- what belongs to the key of a packet
 abbrev pub wanted_of : Declaration → Wanted
-wanted_of d = record { payload_bytes = d.payload_bytes; tcp_options = d.tcp_options }
+wanted_of d = record { payload_bytes = d.payload_bytes; tcp_options = d.tcp_options; fragments = d.fragments }
 
 -- the event of a packet that was captured at a host
 abbrev pub event_of_packet : Declaration → ℕ → captured.Seen → Seen

@@ -7,7 +7,7 @@ use Rattle.decl.specs.declared.items.TraceKind.{TraceKind}
 use Rattle.decl.specs.declared.items.TraceKind.TheVariants.{Capture, Log}
 use Rattle.decl.specs.Declaration.{Declaration}
 use Rattle.captures.specs.Capture as captures
-use Rattle.captures.specs.Capture.{Passed, Reads, none_passed, nothing}
+use Rattle.captures.specs.Capture.{Dropped, Passed, Reads, none_dropped, none_passed, nothing}
 use Rattle.traces.specs.Seen.{Seen, seen_row, event_of_packet}
 use Rattle.traces.specs.declared.event_id.EventId.{EventId}
 
@@ -30,6 +30,20 @@ bytes_accepted (Logged rows size) = size
 abbrev pub passed_of : Trace → Passed
 passed_of (Captured bytes capture) = capture.passed
 passed_of (Logged rows size) = none_passed
+
+-- how many packets under a label were dropped before they were captured; a log tells of none
+abbrev pub dropped_of : Trace → Dropped
+dropped_of (Captured bytes capture) = capture.dropped
+dropped_of (Logged rows size) = none_dropped
+
+-- the packets under a label that have no event: those that were passed over, and those that were dropped before
+pub record Missed : Type 0 where
+  pub passed : Passed
+  pub dropped : Dropped
+
+-- how many they are
+abbrev pub missed_of : Trace → Missed
+missed_of t = record { passed = passed_of t; dropped = dropped_of t }
 
 -- nothing was accepted yet
 abbrev pub nothing_for : TraceKind → Trace

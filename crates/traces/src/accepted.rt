@@ -1,9 +1,9 @@
 // What was accepted under a label.
 ghost use Rattle.std.specs.Prelude.{◌≡◌};
-ghost use Rattle.traces.specs.Held.{passed_by};
+ghost use Rattle.traces.specs.Held.{dropped_by, passed_by};
 
 use crate::Event;
-use captures::{CaptureStream, Passed};
+use captures::{CaptureStream, Dropped, Passed};
 
 /// What is kept of the bytes that were accepted under a label, by its kind, so that the next piece can be read.
 #[derive(Drop)]
@@ -26,6 +26,16 @@ impl Stream {
                 other: 0,
             },
             Stream::Capture(stream) => stream.passed(),
+        }
+    }
+
+    /// How many packets were dropped before they were captured. A log tells of none.
+    pub fn dropped(&self) -> Dropped
+        ensures { result ≡ dropped_by self.now }
+    {
+        match self {
+            Stream::Log => Dropped::none(),
+            Stream::Capture(stream) => stream.dropped(),
         }
     }
 }

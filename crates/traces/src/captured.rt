@@ -87,6 +87,7 @@ fn wanted_of(decl: &Decl) -> Wanted
     Wanted {
         payload_bytes: decl.payload_bytes,
         tcp_options: decl.tcp_options,
+        fragments: decl.fragments,
     }
 }
 

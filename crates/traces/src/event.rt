@@ -26,13 +26,14 @@ pub enum Key {
 pub enum NoKey {
     /// The packet's link type is neither Ethernet nor raw IP nor a Linux cooked one.
     Link,
-    /// The packet is none of TCP or UDP right behind a header of IPv4 or IPv6.
+    /// The packet is none of TCP or UDP right behind a header of IPv4 or IPv6, or, where fragments have keys, behind at most
+    /// eight extension headers.
     Other,
     /// Too little of the packet was captured.
     Short,
     /// A header of the packet can't be one.
     Header,
-    /// The packet is a fragment.
+    /// The packet is a fragment of IPv4, and fragments have no keys.
     Fragment,
     /// A length in the packet does not fit the others.
     Length,

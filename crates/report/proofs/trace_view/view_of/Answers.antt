@@ -4,9 +4,9 @@ use Rattle.decl.specs.Declaration.{declaration_of}
 use Rattle.traces.specs.Seen.{seen_events}
 use Rattle.traces.specs.declared.accepted.Accepted.{Accepted}
 use Rattle.traces.specs.Traces.{events_of}
-use Rattle.traces.specs.Held.{passed_in, seen_in}
+use Rattle.traces.specs.Held.{missed_in, seen_in}
 use Rattle.msg_match.specs.declared.change.Tallies.{Tallies}
-use Rattle.report.specs.Report.{reported_key}
+use Rattle.report.specs.Report.{reported_drops, reported_key}
 use Rattle.msg_match.specs.Ends.{ends_among}
 use Rattle.msg_match.specs.Ambiguous.{EndGroup, ambiguous_ends, tallies_of}
 use Rattle.report.specs.Reports.{named_key}
@@ -37,10 +37,11 @@ returns-clause-view c =
     let seen = seen_in c.args.accepted.now in
     let keys : map seen_ambiguous c.deref.result.now ≡ ambiguous_ends (ends_among (events_of seen)) = ap (map seen_ambiguous) c.deref.ensures.value ∙ c.in_ok-keys.ensures seen c.requires.ends in
     let told : c.tallies-tallies.result ≡ tallies_of (ends_among (events_of seen)) = c.tallies-tallies.ensures ∙ counts_told (ids_in c.args.roster.now) c.args.matcher.now seen c.requires.ends in
-    made_is d seen (passed_in c.args.accepted.now) c.args.consistent c.event_count.result c.tallies-tallies.result.messages c.tallies-tallies.result.unmatched c.nokeys_of.result c.passed_sums.result (map reported_key c.in_ok-groups.groups.items)
+    made_is d seen (missed_in c.args.accepted.now) c.args.consistent c.event_count.result c.tallies-tallies.result.messages c.tallies-tallies.result.unmatched (map reported_drops c.in_ok-dropped.dropped.items) c.nokeys_of.result c.passed_sums.result (map reported_key c.in_ok-groups.groups.items)
     (counted seen c.event_count.result c.event_count.ensures c.requires.few)
     (ap (λ (t : Tallies). t.messages) told ∙ messages_many (events_of seen))
     (ap (λ (t : Tallies). t.unmatched) told)
+    c.in_ok-dropped.ensures
     c.nokeys_of.ensures
     c.passed_sums.ensures
     (c.in_ok-groups.ensures.named ∙ ap (map (named_key d)) keys)

@@ -5,7 +5,7 @@ use Rattle.decl.specs.Declaration.{Declaration, IsDeclaration}
 use Rattle.queries.specs.declared.stop.Stop.TheVariants as stops
 use Rattle.roster.specs.Roster.{listed}
 use Rattle.solver.specs.Solution.{IsSolutionBy}
-use Rattle.traces.specs.Held.{passed_in, seen_in}
+use Rattle.traces.specs.Held.{missed_in, seen_in}
 use Rattle.traces.specs.Messages.{problem_of_seen}
 use Rattle.replies.specs.Commands.{Compare, Time, Merge, Prove, Problem}
 use Rattle.replies.specs.Reply.{IsAnswerTo}
@@ -26,7 +26,7 @@ returns-in-Compare-clause-writes g c =
     let a = c.args.answers.now in
     let seen = seen_in c.args.accepted.now in
     let t = c.ask_comparison.ensures.writes (answers_problem a seen) c.requires.ready.1.graph.solution in
-    rw c.in-Compare.is (such_of (IsAnswerTo (Compare c.in-Compare.asked c.in-Compare.first.now c.in-Compare.second.now) (declared a) seen (passed_in c.args.accepted.now)) t.1 (c.written.ensures.writes t.0 _ _ t.2))
+    rw c.in-Compare.is (such_of (IsAnswerTo (Compare c.in-Compare.asked c.in-Compare.first.now c.in-Compare.second.now) (declared a) seen (missed_in c.args.accepted.now)) t.1 (c.written.ensures.writes t.0 _ _ t.2))
 
 pub returns-in-Compare-clause-ready : goal.returns-in-Compare-clause-ready
 returns-in-Compare-clause-ready g c = λ kept are. answers_left (seen_in c.args.accepted.now) kept c.args.answers.now _ are c.ask_comparison.ensures.leaves
@@ -42,7 +42,7 @@ returns-in-Prove-clause-writes g c =
     let a = c.args.answers.now in
     let seen = seen_in c.args.accepted.now in
     let t = c.ask_proof.ensures.writes (answers_problem a seen) c.requires.ready.1.graph.solution in
-    rw c.in-Prove.is (such_of (IsAnswerTo (Prove c.in-Prove.first.now c.in-Prove.second.now) (declared a) seen (passed_in c.args.accepted.now)) t.1 (c.written-in-Prove.ensures.writes t.0 _ _ t.2))
+    rw c.in-Prove.is (such_of (IsAnswerTo (Prove c.in-Prove.first.now c.in-Prove.second.now) (declared a) seen (missed_in c.args.accepted.now)) t.1 (c.written-in-Prove.ensures.writes t.0 _ _ t.2))
 
 pub returns-in-Prove-clause-ready : goal.returns-in-Prove-clause-ready
 returns-in-Prove-clause-ready g c = λ kept are. answers_left (seen_in c.args.accepted.now) kept c.args.answers.now _ are c.ask_proof.ensures.leaves
@@ -59,7 +59,7 @@ returns-in-Time-clause-writes g c =
     let seen = seen_in c.args.accepted.now in
     let are = c.requires.ready.1 in
     let t = c.ask_time.ensures (answers_problem a seen) d.source are.graph.solution (source_keeps d c.args.accepted.now are.lawful.declared) are.source_slot in
-    rw c.in-Time.is (such_of (IsAnswerTo (Time c.in-Time.event.now) d seen (passed_in c.args.accepted.now)) t.1 (c.written-in-Time.ensures.writes t.0 _ _ t.2))
+    rw c.in-Time.is (such_of (IsAnswerTo (Time c.in-Time.event.now) d seen (missed_in c.args.accepted.now)) t.1 (c.written-in-Time.ensures.writes t.0 _ _ t.2))
 
 pub write_merge-requires-clause-declared : goal.write_merge-requires-clause-declared
 write_merge-requires-clause-declared g c = subst IsDeclaration (sym c.decl.ensures.same) c.requires.ready.1.lawful.declared
@@ -74,7 +74,7 @@ write_merge-requires-clause-solution g c =
 
 pub returns-in-Merge-clause-writes : goal.returns-in-Merge-clause-writes
 returns-in-Merge-clause-writes g c =
-    rw c.in-Merge.is (subst (λ (d : Declaration). WritesSuch (IsAnswerTo Merge d (seen_in c.args.accepted.now) (passed_in c.args.accepted.now)) stops.WriteFault (g.O.Sink.told c.args.out.now) (g.O.Sink.told c.write_merge.new.out)
+    rw c.in-Merge.is (subst (λ (d : Declaration). WritesSuch (IsAnswerTo Merge d (seen_in c.args.accepted.now) (missed_in c.args.accepted.now)) stops.WriteFault (g.O.Sink.told c.args.out.now) (g.O.Sink.told c.write_merge.new.out)
     c.write_merge.result) c.decl.ensures.same c.write_merge.ensures.writes)
 
 pub write_report-requires-clause-ends : goal.write_report-requires-clause-ends
@@ -97,5 +97,5 @@ returns-in-Problem-clause-writes g c =
     let a = c.args.answers.now in
     let seen = seen_in c.args.accepted.now in
     let graph = c.requires.ready.1.graph in
-    rw c.in-Problem.is (such_of (IsAnswerTo Problem (declared a) seen (passed_in c.args.accepted.now)) refl
+    rw c.in-Problem.is (such_of (IsAnswerTo Problem (declared a) seen (missed_in c.args.accepted.now)) refl
     (c.written-in-Problem.ensures.writes _ _ _ (c.write_roster.ensures seen graph.holds (told seen a.graph.roster a.graph.solver graph))))

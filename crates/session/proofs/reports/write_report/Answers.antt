@@ -2,7 +2,7 @@ use Rattle.std.proofs.Common.{◌∙◌, length, sym, ap, subst}
 use Rattle.decl.specs.Declaration.{Declaration, IsDeclaration}
 use Rattle.report.specs.Report.{report_line}
 use Rattle.report.specs.Reports.{report_of}
-use Rattle.traces.specs.Held.{passed_in, seen_in}
+use Rattle.traces.specs.Held.{missed_in, seen_in}
 use Rattle.traces.specs.Messages.{problem_of_seen}
 use Rattle.ports.proofs.Writing.{such_of}
 use Rattle.replies.specs.Reply.{IsReport}
@@ -19,10 +19,10 @@ pub returns-clause-writes : goal.returns-clause-writes
 returns-clause-writes g c =
     let d = c.args.roster.now.declaration in
     let seen = seen_in c.args.accepted.now in
-    let passed = passed_in c.args.accepted.now in
+    let missed = missed_in c.args.accepted.now in
     let consistent = c.is_consistent-consistent.result in
-    let view = c.in_ok-view.ensures.view ∙ ap (λ (x : Declaration). report_of x seen passed consistent) c.decl.ensures.same in
-    such_of (IsReport d seen passed)
+    let view = c.in_ok-view.ensures.view ∙ ap (λ (x : Declaration). report_of x seen missed consistent) c.decl.ensures.same in
+    such_of (IsReport d seen missed)
     (consistent, c.is_consistent-consistent.ensures c.requires.solution.0 (problem_of_seen d seen) c.requires.solution.1, c.deref.ensures.value ∙ c.in_ok-line.ensures ∙ ap report_line view) c.write_line.ensures.writes
 
 pub returns-clause-untouched : goal.returns-clause-untouched

@@ -4,7 +4,7 @@ use Rattle.decl.specs.Declaration.{Declaration}
 use Rattle.roster.specs.Roster.{RosterLists}
 use Rattle.traces.specs.declared.accepted.Accepted.{Accepted}
 use Rattle.traces.specs.Traces.{event_count}
-use Rattle.traces.specs.Held.{passed_in, seen_in}
+use Rattle.traces.specs.Held.{missed_in, seen_in}
 use Rattle.session.specs.Stands.{Held, held_parts, solver_of}
 use Rattle.session_answers.specs.Ready.{AreAnswersOf, declared}
 use Rattle.replies.specs.Commands.{Ask, question_seen}
@@ -40,7 +40,7 @@ returns-clause-writes g c =
     let same : declared c.answer.new.answers ≡ d = ap (λ (r : RosterLists). r.declaration) c.answer.ensures.roster in
     reply_such (λ IsWritten told. subst (λ (x : Declaration). UnreadAnswered c.args.self.now (held_parts x c.self.inside.accepted.items kept after) (Ask q) IsWritten) (sym same)
     (subst (λ (h : Held). UnreadAnswered h (held_parts d c.self.inside.accepted.items kept after) (Ask q) IsWritten) c.self.view_is
-    (answered d c.self.inside.accepted.items q IsWritten (subst (λ (l : List Accepted). Told (IsAnswerTo q d (seen_in l) (passed_in l)) IsWritten) c.deref.ensures.value told) kept before after))) c.answer.ensures.writes
+    (answered d c.self.inside.accepted.items q IsWritten (subst (λ (l : List Accepted). Told (IsAnswerTo q d (seen_in l) (missed_in l)) IsWritten) c.deref.ensures.value told) kept before after))) c.answer.ensures.writes
 
 pub returns-clause-ready : goal.returns-clause-ready
 returns-clause-ready g c =

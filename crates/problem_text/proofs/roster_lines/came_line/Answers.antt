@@ -1,16 +1,15 @@
-use Rattle.std.proofs.Common.{◌≡◌, ◌<◌, List, length, get_or, slice_get, Some, ap, subst, arith}
+use Rattle.std.proofs.Common.{◌≡◌, ◌<◌, List, length, get_or, slice_get, Some, ◌∙◌, ap, subst, arith}
 use Rattle.std.proofs.lemmas.List.{length-map}
 use Rattle.problem_model.specs.declared.items.Clock.{Clock}
 use Rattle.decl.specs.declared.items.Label.{Label}
 use Rattle.decl.specs.Declaration.{Declaration}
-use Rattle.ports.proofs.Writing.{writes_as}
 use Rattle.roster.proofs.ListedPlaces.{own_label}
 use Rattle.roster.proofs.Pushing.{clock_inside}
 use Rattle.problem_text.proofs.LineTexts.{came_text}
-use Rattle.problem_text.proofs.roster_lines.write_came.Goals as goal
+use Rattle.problem_text.proofs.roster_lines.came_line.Goals as goal
 
 pub clock_name-clock-requires : goal.clock_name-clock-requires
-clock_name-clock-requires g c =
+clock_name-clock-requires c =
     let r = c.args.roster.now in
     let e = c.event-came.result in
     let l : Label = c.index.result.now in
@@ -20,10 +19,10 @@ clock_name-clock-requires g c =
     omega (arith, inside, length-map r.declaration.clocks (λ (x : Clock). x.name))
 
 pub returns : goal.returns
-returns g c =
+returns c =
     let r = c.args.roster.now in
     let e = c.event-came.result in
     let l : Label = c.index.result.now in
     let same = ap (λ (d : Declaration). d.labels) c.decl.ensures.same in
     let own : slice_get r.declaration.labels e.label ≡ Some l = own_label r c.decl.ensures.lawful c.args.v e c.event-came.ensures l (subst (λ (xs : List Label). l ≡ get_or xs e.label l) same c.index.ensures) in
-    writes_as (came_text r c.decl.ensures.lawful c.args.v e l c.event_name-name.result c.clock_name-clock.result c.event-came.ensures own c.event_name-name.ensures c.clock_name-clock.ensures) c.write_event.ensures
+    c.event_line.ensures ∙ came_text r c.decl.ensures.lawful c.args.v e l c.event_name-name.result c.clock_name-clock.result c.event-came.ensures own c.event_name-name.ensures c.clock_name-clock.ensures

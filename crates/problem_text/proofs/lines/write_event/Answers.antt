@@ -1,4 +1,0 @@
-use Rattle.problem_text.proofs.lines.write_event.Goals as goal
-
-pub returns : goal.returns
-returns g c = rw c.event_line-line.ensures at (rw c.as_slice.ensures.value at c.write_whole.ensures)
