@@ -2,6 +2,7 @@ pub mod Judging
 pub mod Times
 pub mod Loops
 pub mod Widening
+pub mod Comparing
 pub mod Messages
 pub mod Walking
 pub mod Joining

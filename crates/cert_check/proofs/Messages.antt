@@ -2,13 +2,14 @@
 use Rattle.std.proofs.Common.{◌≡◌, ◌<◌, ℕ, zero, suc, List, [], ◌∷◌, length, map, get_or, slice_get, Some, refl, sym, ◌∙◌, ap, arith, inl, inr}
 use Rattle.std.specs.Prelude.{Contains}
 use Rattle.std.proofs.lemmas.Bool.{cases_lt}
+use Rattle.std.proofs.lemmas.List.Elements.{All-contains}
 use Rattle.std.proofs.lemmas.Option.{slice_get_read, slice_get_within, get_or_from_slice_get}
 use Rattle.problem_model.specs.declared.items.Message.{Message}
 use Rattle.problem_model.specs.Problem.{ProblemLists, IsWellFormed}
 use Rattle.problem.specs.Line.{HasMessageAt}
 use Rattle.cert_check.specs.Walks.{HasMessageBetween}
 
-some_same : {X : Type 0} (a b : X) → Some a ≡ Some b → a ≡ b
+pub some_same : {X : Type 0} (a b : X) → Some a ≡ Some b → a ≡ b
 some_same a b e = cc
 
 -- ---- a message has its ends at its place
@@ -21,6 +22,10 @@ pub has_place : (p : ProblemLists) (send receive : ℕ) → HasMessageBetween p 
 has_place p send receive (m, (k, inside, is), from, to) =
     let at : slice_get p.messages k ≡ Some m = slice_get_read p.messages (length p.messages) k m refl inside (sym is) in
     (k, pair_at p.messages k m at ∙ (let same : m.send ≡ send = from in let same' : m.receive ≡ receive = to in rw (same, same') refl))
+
+-- ---- a message joins events of the problem
+pub ends_within : (p : ProblemLists) → IsWellFormed p → (m : Message) → Contains p.messages m → (m.send < length p.events) × (m.receive < length p.events)
+ends_within p lawful m has = (All-contains (λ (n : Message). n.send < length p.events) p.messages m lawful.sends has, All-contains (λ (n : Message). n.receive < length p.events) p.messages m lawful.receives has)
 
 -- ---- messages of the same ends are one
 module _ (p : ProblemLists) (lawful : IsWellFormed p) where

@@ -1,8 +1,12 @@
--- A widened problem has the nodes and the names of bounds that the problem has, and greater weights alone.
-use Rattle.std.proofs.Common.{◌≡◌, ◌≢◌, ◌<◌, ◌+◌, ◌*◌, ℕ, zero, suc, List, [], ◌∷◌, ◌++◌, length, map, get_or, Option, Some, None, refl, sym, ◌∙◌, ap, subst, arith}
-use Rattle.std.specs.Prelude.{All, AllPairs, Contains, pos}
+-- A widened problem has the nodes and the names of bounds that the problem has, and other weights alone.
+use Rattle.std.proofs.Common.{◌≡◌, ◌≢◌, ◌<◌, ◌+◌, ◌-◌, ◌*◌, ℕ, zero, suc, Bool, true, false, List, [], ◌∷◌, ◌++◌, length, map, get_or, slice_get, Option, Some, None, refl, sym, ◌∙◌, ap, subst, arith}
+use Rattle.std.specs.Prelude.{All, AllPairs, Contains, ℤ, pos, neg_ℤ, if◌then◌else◌, ⊤}
 use Rattle.std.specs.List.{flat_map}
 use Rattle.std.proofs.lemmas.List.{length-map, get_or-map}
+use Rattle.std.proofs.lemmas.Option.{slice_get-get_or, slice_get_within, get_or_from_slice_get}
+use Rattle.atto.specs.Span.{most_of, least_of}
+use Rattle.problem_model.specs.declared.items.Clock.{Clock}
+use Rattle.problem_model.specs.declared.items.Event.{Event}
 use Rattle.problem_model.specs.declared.items.Follow.{Follow}
 use Rattle.problem_model.specs.declared.items.Message.{Message}
 use Rattle.problem_model.specs.declared.items.Bound.{Bound}
@@ -10,79 +14,223 @@ use Rattle.problem_model.specs.declared.items.Bound.TheVariants as bounds
 use Rattle.problem_model.specs.declared.items.Bound.TheVariants.{SpanMost, SpanLeast, Late, Early, DelayMost, DelayLeast}
 use Rattle.problem_model.specs.declared.items.Node.TheVariants as nodes
 use Rattle.problem_model.specs.Problem.{ProblemLists, IsWellFormed}
-use Rattle.problem_model.specs.Bounds.{Constraint, LinesLead, Declares, Times}
+use Rattle.problem_model.specs.Name.{IsClockName}
+use Rattle.problem_model.specs.Bounds.{Constraint, ClockAt, LinesLead, Declares, Times}
 use Rattle.problem_model.specs.Nodes.{Reading, AreReadings}
-use Rattle.problem_model.specs.ShortList.{span_bounds, event_bounds, follow_bounds, most_bound, message_bounds}
+use Rattle.problem_model.specs.ShortList.{span_bounds, event_bounds, clocks_before, first_reading, nearest_reading, follow_bound, follow_bounds, most_bound, message_bounds}
 use Rattle.cert.specs.declared.chain.Step.{Step}
 use Rattle.cert.specs.CertificateText.{IsStepOf}
 use Rattle.cert_check.specs.declared.verdict.Verdict.{Verdict}
+use Rattle.cert_check.specs.declared.what.Links.TheVariants as links
+use Rattle.cert_check.specs.declared.what.What.{What}
+use Rattle.cert_check.specs.declared.what.What.TheVariants.{Delays, Least, Stamps, Rates}
 use Rattle.cert_check.specs.Reasons.{joining_bounds}
 use Rattle.cert_check.specs.Verdict.{Judges, IsVerdict}
-use Rattle.cert_check.specs.Widened.{widened_most, widened_message, widened}
+use Rattle.cert_check.specs.Widened.{has_clock, added_to, widened_most, with_wider_rate, with_wider_stamps, widened_clock, clocks_by, widened_clocks, widened_message, widened}
 use Rattle.cert_check.proofs.Loops.{whole_verdict}
+use Rattle.cert_check.proofs.Messages.{some_same}
+use Rattle.cert_check.proofs.Named.{there_is}
 
 -- ---- widened by nothing
-most_same : (o : Option ℕ) → widened_most 0 o ≡ o
+pub most_same : (o : Option ℕ) → widened_most 0 o ≡ o
 most_same None = refl
 most_same (Some most) = ap Some (let same : most + 0 ≡ most = omega arith in same)
 
-message_same : (m : Message) → widened_message 0 m ≡ m
-message_same m = ap (λ (o : Option ℕ). record { send = m.send; receive = m.receive; least = m.least; most = o }) (most_same m.most)
+message_same : (events : List Event) (m : Message) → widened_message (Delays links.All) events 0 m ≡ m
+message_same events m = ap (λ (o : Option ℕ). record { send = m.send; receive = m.receive; least = m.least; most = o }) (most_same m.most)
 
-messages_same : (ms : List Message) → map (widened_message 0) ms ≡ ms
-messages_same [] = refl
-messages_same (m ∷ ms) = rw (message_same m, messages_same ms) refl
+messages_same : (events : List Event) (ms : List Message) → map (widened_message (Delays links.All) events 0) ms ≡ ms
+messages_same events [] = refl
+messages_same events (m ∷ ms) = rw (message_same events m, messages_same events ms) refl
 
-pub not_widened : (p : ProblemLists) → widened p 0 ≡ p
-not_widened p = ap (λ (ms : List Message). record { clocks = p.clocks; follows = p.follows; events = p.events; messages = ms }) (messages_same p.messages)
+pub not_widened : (p : ProblemLists) → widened (Delays links.All) p 0 ≡ p
+not_widened p = ap (λ (ms : List Message). record { clocks = p.clocks; follows = p.follows; events = p.events; messages = ms }) (messages_same p.events p.messages)
 
 -- ---- messages
-pub contained : (e : ℕ) (ms : List Message) (m : Message) → Contains ms m → Contains (map (widened_message e) ms) (widened_message e m)
-contained e ms m (k, inside, is) = (k, omega (arith, inside, length-map ms (widened_message e)), get_or-map (widened_message e) ms k m (widened_message e m) inside ∙ ap (widened_message e) is)
+module _ (f : Message → Message) where
+  pub contained : (ms : List Message) (m : Message) → Contains ms m → Contains (map f ms) (f m)
+  contained ms m (k, inside, is) = (k, omega (arith, inside, length-map ms f), get_or-map f ms k m (f m) inside ∙ ap f is)
 
--- a widened message is one that was widened
-pub widened_from : (e : ℕ) (ms : List Message) (n : Message) → Contains (map (widened_message e) ms) n → (m : Message) × Contains ms m × (n ≡ widened_message e m)
-widened_from e [] n (k, inside, is) = absurd (omega (arith, inside))
-widened_from e (m ∷ ms) n (zero, inside, is) = (m, (0, omega arith, refl), sym is)
-widened_from e (m ∷ ms) n (suc k, inside, is) =
-    let rest = widened_from e ms n (k, omega (arith, inside), is) in
-    (rest.0, (suc rest.1.0, omega (arith, rest.1.1), rest.1.2), rest.2)
+  -- a widened message is one that was widened
+  pub widened_from : (ms : List Message) (n : Message) → Contains (map f ms) n → (m : Message) × Contains ms m × (n ≡ f m)
+  widened_from [] n (k, inside, is) = absurd (omega (arith, inside))
+  widened_from (m ∷ ms) n (zero, inside, is) = (m, (0, omega arith, refl), sym is)
+  widened_from (m ∷ ms) n (suc k, inside, is) =
+      let rest = widened_from ms n (k, omega (arith, inside), is) in
+      (rest.0, (suc rest.1.0, omega (arith, rest.1.1), rest.1.2), rest.2)
 
 -- the names of its bounds are the same
-bounds_of_most : (e : ℕ) (m : Message) (o : Option ℕ) → most_bound (widened_message e m) (widened_most e o) ≡ most_bound m o
-bounds_of_most e m None = refl
-bounds_of_most e m (Some most) = refl
+bounds_of_most : (m n : Message) (e : ℕ) (o : Option ℕ) → n.send ≡ m.send → n.receive ≡ m.receive → most_bound n (widened_most e o) ≡ most_bound m o
+bounds_of_most m n e None from to = refl
+bounds_of_most m n e (Some most) from to = rw (from, to) refl
 
-pub bounds_same : (e : ℕ) (ms : List Message) → flat_map message_bounds (map (widened_message e) ms) ≡ flat_map message_bounds ms
-bounds_same e [] = refl
-bounds_same e (m ∷ ms) = rw (bounds_of_most e m m.most, bounds_same e ms) refl
+pub bounds_same : (what : What) (events : List Event) (e : ℕ) (ms : List Message) → flat_map message_bounds (map (widened_message what events e) ms) ≡ flat_map message_bounds ms
+bounds_same what events e [] = refl
+bounds_same what events e (m ∷ ms) = rw (bounds_of_most m (widened_message what events e m) (added_to what events e m) m.most refl refl, bounds_same what events e ms) refl
 
-module _ (p : ProblemLists) (e : ℕ) where
+-- ---- clocks
+module _ (f : ℕ → Clock → Clock) where
+  by_there : (j : ℕ) (cs : List Clock) (k : ℕ) (c : Clock) → slice_get cs k ≡ Some c → slice_get (clocks_by f j cs) k ≡ Some (f (j + k) c)
+  by_there j [] k c at = absurd cc
+  by_there j (b ∷ cs) zero c at =
+      let same : b ≡ c = some_same b c at in
+      let place : j ≡ j + 0 = omega arith in
+      ap (λ (v : Clock). Some (f j v)) same ∙ ap (λ (n : ℕ). Some (f n c)) place
+  by_there j (b ∷ cs) (suc k) c at =
+      let place : j + 1 + k ≡ j + suc k = omega arith in
+      by_there (j + 1) cs k c at ∙ ap (λ (n : ℕ). Some (f n c)) place
+
+  by_long : (j : ℕ) (cs : List Clock) → length (clocks_by f j cs) ≡ length cs
+  by_long j [] = refl
+  by_long j (c ∷ cs) = let rest = by_long (j + 1) cs in omega (arith, rest)
+
+  from_first : (cs : List Clock) (k : ℕ) (c : Clock) → slice_get cs k ≡ Some c → slice_get (clocks_by f 0 cs) k ≡ Some (f k c)
+  from_first cs k c at = let place : 0 + k ≡ k = omega arith in by_there 0 cs k c at ∙ ap (λ (n : ℕ). Some (f n c)) place
+
+pub widened_at : (what : What) (e : ℕ) (cs : List Clock) (k : ℕ) (c : Clock) → slice_get cs k ≡ Some c → slice_get (widened_clocks what e cs) k ≡ Some (widened_clock what e k c)
+widened_at (Delays which) e cs k c at = at
+widened_at (Least which) e cs k c at = at
+widened_at (Stamps which) e cs k c at = from_first (widened_clock (Stamps which) e) cs k c at
+widened_at (Rates which) e cs k c at = from_first (widened_clock (Rates which) e) cs k c at
+
+pub as_long : (what : What) (e : ℕ) (cs : List Clock) → length (widened_clocks what e cs) ≡ length cs
+as_long (Delays which) e cs = refl
+as_long (Least which) e cs = refl
+as_long (Stamps which) e cs = by_long (widened_clock (Stamps which) e) 0 cs
+as_long (Rates which) e cs = by_long (widened_clock (Rates which) e) 0 cs
+
+-- a widened clock is one that was widened
+pub clock_from : (what : What) (e : ℕ) (cs : List Clock) (k : ℕ) (d : Clock) → slice_get (widened_clocks what e cs) k ≡ Some d → (c : Clock) × (slice_get cs k ≡ Some c) × (d ≡ widened_clock what e k c)
+clock_from what e cs k d at =
+    let within = slice_get_within (widened_clocks what e cs) k d at in
+    let there = there_is cs k (omega (arith, within, as_long what e cs)) in
+    (there.0, there.1, some_same d (widened_clock what e k there.0) (sym at ∙ widened_at what e cs k there.0 there.1))
+
+-- it has its name
+name_either : (b : Bool) (c d : Clock) → d.name ≡ c.name → (if b then d else c).name ≡ c.name
+name_either true c d same = same
+name_either false c d same = refl
+
+name_same : (what : What) (e k : ℕ) (c : Clock) → (widened_clock what e k c).name ≡ c.name
+name_same (Delays which) e k c = refl
+name_same (Least which) e k c = refl
+name_same (Stamps which) e k c = name_either (has_clock which k) c (with_wider_stamps e c) refl
+name_same (Rates which) e k c = name_either (has_clock which k) c (with_wider_rate e c) refl
+
+name_at : (what : What) (e : ℕ) (cs : List Clock) (k : ℕ) (d : Clock) → k < length cs → (get_or (widened_clocks what e cs) k d).name ≡ (get_or cs k d).name
+name_at what e cs k d inside =
+    let at = widened_at what e cs k (get_or cs k d) (slice_get-get_or cs k d inside) in
+    ap (λ (c : Clock). c.name) (get_or_from_slice_get (widened_clocks what e cs) k (widened_clock what e k (get_or cs k d)) d at) ∙ name_same what e k (get_or cs k d)
+
+-- the follows of as many clocks
+follows_long : (follows : List Follow) (readings : List Reading) (k : ℕ) (cs ds : List Clock) → length cs ≡ length ds → follow_bounds follows readings k cs ≡ follow_bounds follows readings k ds
+follows_long follows readings k [] [] same = refl
+follows_long follows readings k [] (d ∷ ds) same = absurd (omega (arith, same))
+follows_long follows readings k (c ∷ cs) [] same = absurd (omega (arith, same))
+follows_long follows readings k (c ∷ cs) (d ∷ ds) same =
+    ap (λ (rest : List Bound). follow_bound (nearest_reading readings (clocks_before follows k k)) (first_reading readings k) ++ rest) (follows_long follows readings (k + 1) cs ds (omega (arith, same)))
+
+-- ---- from the bounds of a problem to those of another one with the same follows and events
+-- what the weights by a clock, and by a message, become
+pub record ClockGoes (R : ℤ → ℤ → Type 0) (c d : Clock) : Type 0 where
+  pub most : (n : ℕ) → R (pos (most_of c.rate n)) (pos (most_of d.rate n))
+  pub least : (n : ℕ) → R (neg_ℤ (pos (least_of c.rate n))) (neg_ℤ (pos (least_of d.rate n)))
+  pub late : R (pos (c.late * 1000000000)) (pos (d.late * 1000000000))
+  pub early : R (pos (c.early * 1000000000)) (pos (d.early * 1000000000))
+
+pub record MessageGoes (R : ℤ → ℤ → Type 0) (m n : Message) : Type 0 where
+  pub send : n.send ≡ m.send
+  pub receive : n.receive ≡ m.receive
+  pub least : R (neg_ℤ (pos (m.least * 1000000000))) (neg_ℤ (pos (n.least * 1000000000)))
+  pub most : (o : ℕ) → m.most ≡ Some o → (o' : ℕ) × (n.most ≡ Some o') × R (pos (o * 1000000000)) (pos (o' * 1000000000))
+
+module _ (p : ProblemLists) (cs : List Clock) (ms : List Message) where
+  abbrev other : ProblemLists
+  other = record { clocks = cs; follows = p.follows; events = p.events; messages = ms }
+
+  leads_on : (c : ℕ) (lines : List Follow) (d : ℕ) → LinesLead p c lines d → LinesLead other c lines d
+  leads_on c [] d leads = leads
+  leads_on c (f ∷ lines) d leads = (leads.0, leads.1, leads_on f.later lines d leads.2)
+
+  follow_goes : (k s l t : ℕ) (c : Constraint) → Declares p (bounds.Follow k s l t) c → Declares other (bounds.Follow k s l t) c
+  follow_goes k s l t c d = (d.0, d.1, d.2, (d.3.0, d.3.1, leads_on k (d.3.0 ∷ d.3.1) l d.3.2), d.4, d.5, d.6)
+
+  module _ (R : ℤ → ℤ → Type 0) (same : (w : ℤ) → R w w) (clocks_go : (k : ℕ) (c : Clock) → ClockAt p k c → (d : Clock) × (slice_get cs k ≡ Some d) × ClockGoes R c d)
+      (messages_go : (m : Message) → Contains p.messages m → (n : Message) × Contains ms n × MessageGoes R m n) where
+    pub declared_by : (b : Bound) (c : Constraint) → Declares p b c → (d : Constraint) × Declares other b d × R c.weight d.weight
+    declared_by (SpanMost clock s t) c (k, at, is_s, is_t, less, is) =
+        let there = clocks_go clock k at in (
+          record { from = nodes.Reading clock s; to = nodes.Reading clock t; weight = pos (most_of there.0.rate (t - s)) },
+          (there.0, there.1, is_s, is_t, less, refl),
+          subst (λ (v : Constraint). R v.weight (pos (most_of there.0.rate (t - s)))) (sym is) (there.2.most (t - s)),
+        )
+    declared_by (SpanLeast clock s t) c (k, at, is_s, is_t, less, is) =
+        let there = clocks_go clock k at in (
+          record { from = nodes.Reading clock t; to = nodes.Reading clock s; weight = neg_ℤ (pos (least_of there.0.rate (t - s))) },
+          (there.0, there.1, is_s, is_t, less, refl),
+          subst (λ (v : Constraint). R v.weight (neg_ℤ (pos (least_of there.0.rate (t - s))))) (sym is) (there.2.least (t - s)),
+        )
+    declared_by (Late e) c (v, k, at, clock_at, is) =
+        let there = clocks_go v.clock k clock_at in (
+          record { from = nodes.Reading v.clock v.stamp; to = nodes.Event e; weight = pos (there.0.late * 1000000000) },
+          (v, there.0, at, there.1, refl),
+          subst (λ (a : Constraint). R a.weight (pos (there.0.late * 1000000000))) (sym is) there.2.late,
+        )
+    declared_by (Early e) c (v, k, at, clock_at, is) =
+        let there = clocks_go v.clock k clock_at in (
+          record { from = nodes.Event e; to = nodes.Reading v.clock v.stamp; weight = pos (there.0.early * 1000000000) },
+          (v, there.0, at, there.1, refl),
+          subst (λ (a : Constraint). R a.weight (pos (there.0.early * 1000000000))) (sym is) there.2.early,
+        )
+    declared_by (bounds.Follow k s l t) c d = (c, follow_goes k s l t c d, same c.weight)
+    declared_by (DelayMost send receive) c (m, most, has, from, to, at, is) =
+        let there = messages_go m has in
+        let greatest = there.2.most most at in (
+          record { from = nodes.Event send; to = nodes.Event receive; weight = pos (greatest.0 * 1000000000) },
+          (there.0, greatest.0, there.1, there.2.send ∙ from, there.2.receive ∙ to, greatest.1, refl),
+          subst (λ (a : Constraint). R a.weight (pos (greatest.0 * 1000000000))) (sym is) greatest.2,
+        )
+    declared_by (DelayLeast send receive) c (m, has, from, to, is) =
+        let there = messages_go m has in (
+          record { from = nodes.Event receive; to = nodes.Event send; weight = neg_ℤ (pos (there.0.least * 1000000000)) },
+          (there.0, there.1, there.2.send ∙ from, there.2.receive ∙ to, refl),
+          subst (λ (a : Constraint). R a.weight (neg_ℤ (pos (there.0.least * 1000000000)))) (sym is) there.2.least,
+        )
+
+module _ (what : What) (p : ProblemLists) (e : ℕ) where
   abbrev q : ProblemLists
-  q = widened p e
+  q = widened what p e
+
+  abbrev grow : Message → Message
+  grow = widened_message what p.events e
 
   -- ---- what is formed well is so when it is widened
-  all_widened : (P : Message → Type 0) → ((m : Message) → P m → P (widened_message e m)) → All P p.messages → All P (map (widened_message e) p.messages)
+  all_widened : (P : Message → Type 0) → ((m : Message) → P m → P (grow m)) → All P p.messages → All P (map grow p.messages)
   all_widened P keeps all k d inside =
-      let within : k < length p.messages = omega (arith, inside, length-map p.messages (widened_message e)) in
-      subst P (sym (get_or-map (widened_message e) p.messages k d d within)) (keeps _ (all k d within))
+      let within : k < length p.messages = omega (arith, inside, length-map p.messages grow) in
+      subst P (sym (get_or-map grow p.messages k d d within)) (keeps _ (all k d within))
 
-  pairs_widened : (R : Message → Message → Type 0) → ((a b : Message) → R a b → R (widened_message e a) (widened_message e b)) → AllPairs R p.messages → AllPairs R (map (widened_message e) p.messages)
+  pairs_widened : (R : Message → Message → Type 0) → ((a b : Message) → R a b → R (grow a) (grow b)) → AllPairs R p.messages → AllPairs R (map grow p.messages)
   pairs_widened R keeps all i j d below inside =
-      let within : j < length p.messages = omega (arith, inside, length-map p.messages (widened_message e)) in
-      subst (λ (b : Message). R (get_or (map (widened_message e) p.messages) i d) b) (sym (get_or-map (widened_message e) p.messages j d d within))
-      (subst (λ (a : Message). R a (widened_message e (get_or p.messages j d))) (sym (get_or-map (widened_message e) p.messages i d d (omega (arith, below, within)))) (keeps _ _ (all i j d below within)))
+      let within : j < length p.messages = omega (arith, inside, length-map p.messages grow) in
+      subst (λ (b : Message). R (get_or (map grow p.messages) i d) b) (sym (get_or-map grow p.messages j d d within))
+      (subst (λ (a : Message). R a (grow (get_or p.messages j d))) (sym (get_or-map grow p.messages i d d (omega (arith, below, within)))) (keeps _ _ (all i j d below within)))
+
+  long : length q.clocks ≡ length p.clocks
+  long = as_long what e p.clocks
 
   pub formed : IsWellFormed p → IsWellFormed q
   formed f = record {
-    clock_names = f.clock_names;
-    clocks_differ = f.clocks_differ;
-    follow_ends = f.follow_ends;
+    clock_names = λ k d inside. (let within : k < length p.clocks = omega (arith, inside, long) in subst IsClockName (sym (name_at what e p.clocks k d within)) (f.clock_names k d within));
+    clocks_differ = λ i j d below inside same. (
+        let within : j < length p.clocks = omega (arith, inside, long) in
+        f.clocks_differ i j d below within (sym (name_at what e p.clocks i d (omega (arith, below, within))) ∙ same ∙ name_at what e p.clocks j d within));
+    follow_ends = λ k d inside. (let ends = f.follow_ends k d inside in (ends.0, (let within = ends.1 in omega (arith, within, long))));
     earliers_differ = f.earliers_differ;
     laters_differ = f.laters_differ;
     event_names = f.event_names;
     events_differ = f.events_differ;
-    event_clocks = f.event_clocks;
+    event_clocks = λ k d inside. (let within = f.event_clocks k d inside in omega (arith, within, long));
     sends = all_widened (λ m. m.send < length p.events) (λ m x. x) f.sends;
     receives = all_widened (λ m. m.receive < length p.events) (λ m x. x) f.receives;
     two_ends = all_widened (λ m. m.send ≢ m.receive) (λ m x. x) f.two_ends;
@@ -96,32 +244,33 @@ module _ (p : ProblemLists) (e : ℕ) where
   pub readings_back : (readings : List Reading) → AreReadings q readings → AreReadings p readings
   readings_back readings are = record { each = are.each; every = are.every; rising = are.rising }
 
+  -- ---- the bounds of the short list that join two clocks are the same
+  pub joining_same : (readings : List Reading) → joining_bounds q readings ≡ joining_bounds p readings
+  joining_same readings =
+      ap (λ (bs : List Bound). bs ++ flat_map message_bounds q.messages) (follows_long p.follows readings 0 q.clocks p.clocks long)
+      ∙ ap (λ (bs : List Bound). follow_bounds p.follows readings 0 p.clocks ++ bs) (bounds_same what p.events e p.messages)
+
   -- ---- a verdict over the short list of the problem is one over that of the widened problem
   pub widened_verdict : (x : Times) (readings : List Reading) (v : Verdict) → IsWellFormed p → AreReadings p readings
       → Judges q x (span_bounds readings ++ event_bounds 0 p.events ++ joining_bounds p readings) v → IsVerdict q x v
   widened_verdict x readings v f are judged =
       whole_verdict q x readings v (formed f) (readings_on readings are)
-      (subst (λ (bounds : List Bound). Judges q x (span_bounds readings ++ event_bounds 0 p.events ++ (follow_bounds p.follows readings 0 p.clocks ++ bounds)) v) (sym (bounds_same e p.messages)) judged)
+      (subst (λ (bs : List Bound). Judges q x (span_bounds readings ++ event_bounds 0 p.events ++ bs) v) (sym (joining_same readings)) judged)
 
   -- ---- a step of the problem is one of the widened problem
-  leads_on : (c : ℕ) (lines : List Follow) (d : ℕ) → LinesLead p c lines d → LinesLead q c lines d
-  leads_on c [] d leads = leads
-  leads_on c (f ∷ lines) d leads = (leads.0, leads.1, leads_on f.later lines d leads.2)
-
   pub follow_on : (k s l t : ℕ) (c : Constraint) → Declares p (bounds.Follow k s l t) c → Declares q (bounds.Follow k s l t) c
-  follow_on k s l t c d = (d.0, d.1, d.2, (d.3.0, d.3.1, leads_on k (d.3.0 ∷ d.3.1) l d.3.2), d.4, d.5, d.6)
+  follow_on k s l t c d = follow_goes p q.clocks q.messages k s l t c d
 
-  declared_on : (b : Bound) (c : Constraint) → Declares p b c → (d : Constraint) × Declares q b d
-  declared_on (SpanMost clock s t) c d = (c, d)
-  declared_on (SpanLeast clock s t) c d = (c, d)
-  declared_on (Late k) c d = (c, d)
-  declared_on (Early k) c d = (c, d)
-  declared_on (bounds.Follow k s l t) c d = (c, follow_on k s l t c d)
-  declared_on (DelayMost send receive) c (m, most, has, from, to, at, is) = (
-    record { from = nodes.Event send; to = nodes.Event receive; weight = pos ((most + e) * 1000000000) },
-    (widened_message e m, most + e, contained e p.messages m has, from, to, ap (widened_most e) at, refl),
-  )
-  declared_on (DelayLeast send receive) c (m, has, from, to, is) = (c, (widened_message e m, contained e p.messages m has, from, to, is))
+  abbrev Any : ℤ → ℤ → Type 0
+  Any v w = ⊤
+
+  pub declared_on : (b : Bound) (c : Constraint) → Declares p b c → (d : Constraint) × Declares q b d
+  declared_on b c d =
+      let on = declared_by p q.clocks q.messages Any (λ w. tt)
+      (λ k c at. (widened_clock what e k c, widened_at what e p.clocks k c at, record { most = λ n. tt; least = λ n. tt; late = tt; early = tt }))
+      (λ m has. (grow m, contained grow p.messages m has, record { send = refl; receive = refl; least = tt; most = λ o is. (o + added_to what p.events e m, ap (widened_most (added_to what p.events e m)) is, tt) }))
+      b c d in
+      (on.0, on.1)
 
   pub step_on : (s : Step) → IsStepOf p s → IsStepOf q s
   step_on s (c, d) = declared_on s.bound c d

@@ -1,17 +1,93 @@
--- A problem with greater greatest delays.
-use Rattle.std.specs.Prelude.{ℕ, ◌+◌, map, Option, Some, None}
+-- A problem in which numbers of one kind are widened.
+use Rattle.std.specs.Prelude.{ℕ, ◌+◌, ◌-◌, ◌^◌, min, Bool, true, false, ◌&&◌, ◌==◌, if◌then◌else◌, List, [], ◌∷◌, map, slice_get, Option, Some, None}
+use Rattle.atto.specs.Span.{RateParts}
+use Rattle.problem_model.specs.declared.items.Clock.{Clock}
+use Rattle.problem_model.specs.declared.items.Event.{Event}
 use Rattle.problem_model.specs.declared.items.Message.{Message}
 use Rattle.problem_model.specs.Problem.{ProblemLists}
+use Rattle.cert_check.specs.declared.what.Clocks.{Clocks}
+use Rattle.cert_check.specs.declared.what.Clocks.TheVariants as clocks
+use Rattle.cert_check.specs.declared.what.Links.{Links}
+use Rattle.cert_check.specs.declared.what.Links.TheVariants as links
+use Rattle.cert_check.specs.declared.what.Links.TheVariants.{Between}
+use Rattle.cert_check.specs.declared.what.What.{What}
+use Rattle.cert_check.specs.declared.what.What.TheVariants.{Delays, Least, Stamps, Rates}
+
+-- ---- messages
+-- the event has its stamp from this clock
+abbrev pub is_on : List Event → ℕ → ℕ → Bool
+is_on events event clock = elim (slice_get events event) [ None ↦ false | Some v ↦ v.clock == clock ]
+
+-- the message is one of these
+abbrev pub joins : Links → List Event → Message → Bool
+joins links.All events m = true
+joins (Between from to) events m = is_on events m.send from && is_on events m.receive to
+
+-- by how much its greatest delay is greater
+abbrev pub added_to : What → List Event → ℕ → Message → ℕ
+added_to (Delays which) events e m = if joins which events m then e else 0
+added_to (Least which) events e m = 0
+added_to (Stamps which) events e m = 0
+added_to (Rates which) events e m = 0
+
+-- what is left of its least delay
+abbrev pub least_left : What → List Event → ℕ → Message → ℕ
+least_left (Delays which) events e m = m.least
+least_left (Least which) events e m = if joins which events m then m.least - e else m.least
+least_left (Stamps which) events e m = m.least
+least_left (Rates which) events e m = m.least
 
 -- a greatest delay that is e ns greater, where there is one
 abbrev pub widened_most : ℕ → Option ℕ → Option ℕ
 widened_most e None = None
 widened_most e (Some most) = Some (most + e)
 
--- the message with this greatest delay
-abbrev pub widened_message : ℕ → Message → Message
-widened_message e m = record { send = m.send; receive = m.receive; least = m.least; most = widened_most e m.most }
+-- the message with this least delay, and its greatest delay so much greater
+abbrev pub with_delays : ℕ → ℕ → Message → Message
+with_delays least added m = record { send = m.send; receive = m.receive; least = least; most = widened_most added m.most }
 
--- the problem in which each greatest delay of a message is e ns greater; all else is the same
-abbrev pub widened : ProblemLists → ℕ → ProblemLists
-widened p e = record { clocks = p.clocks; follows = p.follows; events = p.events; messages = map (widened_message e) p.messages }
+-- ---- clocks
+-- the clock at this place is one of these
+abbrev pub has_clock : Clocks → ℕ → Bool
+has_clock clocks.All k = true
+has_clock (clocks.One one) k = k == one
+
+-- a rate that may be off by e parts per billion more, as far as rates may
+abbrev pub wider_rate : ℕ → RateParts → RateParts
+wider_rate e r = record { short = min (r.short + e) 999999999; long = min (r.long + e) 1000000000 }
+
+-- the clock with such a rate
+abbrev pub with_wider_rate : ℕ → Clock → Clock
+with_wider_rate e c = record { name = c.name; rate = wider_rate e c.rate; early = c.early; late = c.late }
+
+-- the clock whose events may come e ns earlier and later, below 2^62 ns
+abbrev pub with_wider_stamps : ℕ → Clock → Clock
+with_wider_stamps e c = record { name = c.name; rate = c.rate; early = min (c.early + e) (2 ^ 62 - 1); late = min (c.late + e) (2 ^ 62 - 1) }
+
+-- the clock at a place, widened by e
+abbrev pub widened_clock : What → ℕ → ℕ → Clock → Clock
+widened_clock (Delays which) e k c = c
+widened_clock (Least which) e k c = c
+widened_clock (Stamps which) e k c = if has_clock which k then with_wider_stamps e c else c
+widened_clock (Rates which) e k c = if has_clock which k then with_wider_rate e c else c
+
+-- clocks from place k on, each as this says of its place
+abbrev pub clocks_by : (ℕ → Clock → Clock) → ℕ → List Clock → List Clock
+clocks_by f k [] = []
+clocks_by f k (c ∷ cs) = f k c ∷ clocks_by f (k + 1) cs
+
+-- all clocks widened by e; where messages are widened they stay
+abbrev pub widened_clocks : What → ℕ → List Clock → List Clock
+widened_clocks (Delays which) e cs = cs
+widened_clocks (Least which) e cs = cs
+widened_clocks (Stamps which) e cs = clocks_by (widened_clock (Stamps which) e) 0 cs
+widened_clocks (Rates which) e cs = clocks_by (widened_clock (Rates which) e) 0 cs
+
+-- ---- problems
+-- the message, widened by e
+abbrev pub widened_message : What → List Event → ℕ → Message → Message
+widened_message what events e m = with_delays (least_left what events e m) (added_to what events e m) m
+
+-- the problem in which what is named is widened by e: ns, or parts per billion of a rate; all else is the same
+abbrev pub widened : What → ProblemLists → ℕ → ProblemLists
+widened what p e = record { clocks = widened_clocks what e p.clocks; follows = p.follows; events = p.events; messages = map (widened_message what p.events e) p.messages }

@@ -15,8 +15,8 @@ use crate::answer::{Answer, Part, Reason};
 use crate::attained::{attained_fault, run_fault};
 use crate::cut::cut_fault;
 use crate::cycle::cycle_fault;
-use crate::declared::no_extra;
 use crate::path::path_fault;
+use crate::what::{Links, What, no_extra};
 use atto::Nano;
 use cert::{Cert, Chain, EndProof};
 use problem::Problem;
@@ -74,18 +74,18 @@ fn ends_answer(p: &Problem, first: u32, second: u32, upper: &EndProof, lower: &E
     }
 }
 
-/// Whether a cycle is a contradiction of `p` where each greatest delay of a message is `extra` ns greater, or the first reason
-/// why it is not: no steps, then for each step its weight, which is to be the greater one, and its join, then the sum, which
-/// is below 2^116 in absolute value. It takes no memory.
-pub fn check_cycle(p: &Problem, extra: Nano, c: &Chain) -> Answer
+/// Whether a cycle is a contradiction of `p` where it is widened by `extra` ns, or parts per billion of rates, or the first
+/// reason why it is not: no steps, then for each step its weight, which is to be that of the widened problem, and its join,
+/// then the sum, which is below 2^116 in absolute value. It takes no memory.
+pub fn check_cycle(p: &Problem, what: What, extra: Nano, c: &Chain) -> Answer
     requires { All (IsStepOf p.now) c.now }
-    ensures answer { IsAnswer (widened p.now extra) (certs.Cycle c.now) result }
-    ensures exact { Shows (widened p.now extra) (certs.Cycle c.now) → result ≡ answers.Yes }
+    ensures answer { IsAnswer (widened what p.now extra) (certs.Cycle c.now) result }
+    ensures exact { Shows (widened what p.now extra) (certs.Cycle c.now) → result ≡ answers.Yes }
     ensures small { IsSmallAnswer result }
 {
     // It tells that the problem is lawful.
     let _ = p.events();
-    answer(Part::Cycle, cycle_fault(p, extra, c))
+    answer(Part::Cycle, cycle_fault(p, what, extra, c))
 }
 
 /// Whether a certificate of `p` shows what it should, or the first reason why it does not: in a cycle no steps, then for
@@ -102,7 +102,7 @@ pub fn check(p: &Problem, c: &Cert) -> Answer
     // It tells that the problem is lawful.
     let _ = p.events();
     match c {
-        Cert::Cycle(chain) => check_cycle(p, no_extra(), chain),
+        Cert::Cycle(chain) => check_cycle(p, What::Delays(Links::All), no_extra(), chain),
         Cert::Run(execution) => answer(Part::Run, run_fault(p, execution)),
         Cert::Ends {
             p: first,

@@ -164,7 +164,7 @@ pub fn cut_fault(p: &Problem, part: Part, first: u32, second: u32, inside: &[u32
     ensures found { FindsFault part (CutIs p.now part first second inside.now) (Parts p.now inside.now (home_of part first second) (away_of part first second)) result }
     ensures small { IfSome result IsSmallReason }
 {
-    // It tells that the problem is lawful.
+    // Both tell that the problem is lawful, for its events and for its readings.
     let _ = p.events();
     let _readings = p.readings();
     if !is_inside(p, inside, home_of(part, first, second)) {

@@ -17,8 +17,9 @@ ghost use Rattle.std.specs.Prelude.{IfSome};
 ghost use Rattle.problem_model.specs.Limits.{walk_bits};
 
 use crate::answer::{Part, Reason};
-use crate::declared::declared;
+use crate::declared::declared_in;
 use crate::walk::{Held, Walk, walk_over};
+use crate::what::What;
 use atto::Nano;
 use cert::Chain;
 use problem::Problem;
@@ -41,20 +42,20 @@ fn closing_fault(start: &Node, held: Held, count: u32) -> Option<Reason>
 }
 
 // Where the first step comes from.
-fn start_of(p: &Problem, extra: Nano, chain: &Chain) -> Node
+fn start_of(p: &Problem, what: What, extra: Nano, chain: &Chain) -> Node
     requires steps { All (IsStepOf p.now) chain.now }
     requires some { 0 < length chain.now }
-    ensures { (f : Step) × (a : Constraint) × (slice_get chain.now 0 ≡ Some f) × Declares (widened p.now extra) f.bound a × (a.from ≡ result) }
+    ensures { (f : Step) × (a : Constraint) × (slice_get chain.now 0 ≡ Some f) × Declares (widened what p.now extra) f.bound a × (a.from ≡ result) }
 {
     let first = &chain.steps()[0];
-    let bound = declared(p, extra, &first.bound);
+    let bound = declared_in(p, what, extra, &first.bound);
     bound.from
 }
 
 /// What is wrong with a cycle of a problem that is widened.
-pub fn cycle_fault(p: &Problem, extra: Nano, chain: &Chain) -> Option<Reason>
+pub fn cycle_fault(p: &Problem, what: What, extra: Nano, chain: &Chain) -> Option<Reason>
     requires { All (IsStepOf p.now) chain.now }
-    ensures found { FindsFault parts.Cycle (CycleIs (widened p.now extra) chain.now) (IsContradictionOf (widened p.now extra) (weighed_bounds chain.now)) result }
+    ensures found { FindsFault parts.Cycle (CycleIs (widened what p.now extra) chain.now) (IsContradictionOf (widened what p.now extra) (weighed_bounds chain.now)) result }
     ensures small { IfSome result IsSmallReason }
 {
     // It tells that the problem is lawful.
@@ -62,8 +63,8 @@ pub fn cycle_fault(p: &Problem, extra: Nano, chain: &Chain) -> Option<Reason>
     if chain.is_empty() {
         return Some(Reason::Empty);
     }
-    let start = start_of(p, extra, chain);
-    match walk_over(p, extra, Part::Cycle, &start, chain) {
+    let start = start_of(p, what, extra, chain);
+    match walk_over(p, what, extra, Part::Cycle, &start, chain) {
         Walk::Astray(step) => Some(Reason::Join(step - 1)),
         Walk::Misweighed(step) => Some(Reason::Weight(step)),
         Walk::Arrived(held) => closing_fault(&start, held, chain.len()),

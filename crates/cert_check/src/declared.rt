@@ -6,8 +6,10 @@ ghost use Rattle.problem_model.specs.Bounds.{Constraint, Declares, ClockAt, Even
 ghost use Rattle.problem.specs.Line.{HasMessageAt};
 ghost use Rattle.problem_model.specs.declared.items.Follow.{Follow};
 ghost use Rattle.cert_check.specs.Walks.{constraint, HasMessageBetween, LeadsTo};
-ghost use Rattle.cert_check.specs.Widened.{widened};
+ghost use Rattle.cert_check.specs.declared.what.What.{What};
+ghost use Rattle.cert_check.specs.Widened.{with_delays, widened};
 
+use crate::what::{What, added_to, clock_in, least_left};
 use atto::{Nano, delay_units, span_least, span_most};
 use problem::{NearestFollow, Problem};
 use problem_model::{Bound, Clock, Event, Message, Node};
@@ -20,22 +22,12 @@ pub struct Declaration {
     pub weight: i128,
 }
 
-/// The widening of a problem that is not widened.
-pub fn no_extra() -> Nano
-    ensures { result ≡ 0 }
-{
-    match Nano::new(0) {
-        Some(none) => none,
-        None => unreachable!(),
-    }
-}
-
-/// A greatest delay that is `extra` ns greater, in units of 1e-9 ns.
-pub fn widened_units(most: Nano, extra: Nano) -> i128
-    ensures exact { result ≡ pos ((most + extra) * 1000000000) }
+/// A greatest delay that is so many ns greater, in units of 1e-9 ns.
+pub fn widened_units(most: Nano, added: Nano) -> i128
+    ensures exact { result ≡ pos ((most + added) * 1000000000) }
     ensures below { unsigned_abs result < 2 ^ 93 }
 {
-    delay_units(most) + delay_units(extra)
+    delay_units(most) + delay_units(added)
 }
 
 /// The bound of the short list whose later clock this is.
@@ -100,37 +92,29 @@ fn earliest(place: u32, event: &Event, clock: &Clock) -> Declaration
     }
 }
 
-// The greatest delay of a message in a problem that is widened.
-fn slowest(message: &Message, most: Nano, extra: Nano) -> Declaration
+// The greatest delay of a message, so much greater.
+fn slowest(message: &Message, most: Nano, added: Nano) -> Declaration
     requires { message.now.most ≡ Some most }
-    ensures declares { (p : ProblemLists) → Contains p.messages message.now → Declares (widened p extra) (bounds.DelayMost message.now.send message.now.receive) (constraint result) }
+    ensures declares { (p : ProblemLists) (least : ℕ) → Contains p.messages (with_delays least added message.now) → Declares p (bounds.DelayMost message.now.send message.now.receive) (constraint result) }
     ensures below { unsigned_abs result.weight < 2 ^ 93 }
 {
     Declaration {
         from: Node::Event(message.send),
         to: Node::Event(message.receive),
-        weight: widened_units(most, extra),
+        weight: widened_units(most, added),
     }
 }
 
-// The least delay of a message, which is the same however the problem is widened.
-fn quickest(message: &Message) -> Declaration
-    ensures declares { (p : ProblemLists) (extra : ℕ) → Contains p.messages message.now → Declares (widened p extra) (bounds.DelayLeast message.now.send message.now.receive) (constraint result) }
+// What is left of the least delay of a message.
+fn quickest(message: &Message, least: Nano) -> Declaration
+    ensures declares { (p : ProblemLists) (added : ℕ) → Contains p.messages (with_delays least added message.now) → Declares p (bounds.DelayLeast message.now.send message.now.receive) (constraint result) }
     ensures below { unsigned_abs result.weight < 2 ^ 93 }
 {
     Declaration {
         from: Node::Event(message.receive),
         to: Node::Event(message.send),
-        weight: -delay_units(message.least),
+        weight: -delay_units(least),
     }
-}
-
-// The clock at a place.
-fn clock_at(p: &Problem, place: u32) -> &Clock
-    requires { place < length p.now.clocks }
-    ensures { ClockAt p.now place result.now }
-{
-    &p.clocks()[place as usize]
 }
 
 // The event at a place, whose clock is one of the problem's.
@@ -165,16 +149,26 @@ fn message_between(p: &Problem, send: u32, receive: u32) -> &Message
 }
 
 // The greatest delay of the message from one event to another, which has one, in a problem that is widened.
-fn slowest_between(p: &Problem, extra: Nano, send: u32, receive: u32) -> Declaration
+fn slowest_between(p: &Problem, what: What, extra: Nano, send: u32, receive: u32) -> Declaration
     requires { (c : Constraint) × Declares p.now (bounds.DelayMost send receive) c }
-    ensures declares { Declares (widened p.now extra) (bounds.DelayMost send receive) (constraint result) }
+    ensures declares { Declares (widened what p.now extra) (bounds.DelayMost send receive) (constraint result) }
     ensures below { unsigned_abs result.weight < 2 ^ 93 }
 {
     let message = message_between(p, send, receive);
     match message.most {
-        Some(most) => slowest(message, most, extra),
-        None => quickest(message),
+        Some(most) => slowest(message, most, added_to(p, what, extra, message)),
+        None => unreachable!(),
     }
+}
+
+// The least delay of the message from one event to another in a problem that is widened.
+fn quickest_between(p: &Problem, what: What, extra: Nano, send: u32, receive: u32) -> Declaration
+    requires { HasMessageBetween p.now send receive }
+    ensures declares { Declares (widened what p.now extra) (bounds.DelayLeast send receive) (constraint result) }
+    ensures below { unsigned_abs result.weight < 2 ^ 93 }
+{
+    let message = message_between(p, send, receive);
+    quickest(message, least_left(p, what, extra, message))
 }
 
 // The gap in ns of the follow whose later clock this is.
@@ -191,10 +185,10 @@ fn gap_to(p: &Problem, later: u32) -> Nano
 }
 
 // How long a reading of one clock comes at least before one of a clock that comes after it, by the gap of the follow whose later
-// clock that is.
-fn following(p: &Problem, extra: Nano, earlier: u32, s: Nano, later: u32, t: Nano) -> Declaration
+// clock that is. It is the same however the problem is widened.
+fn following(p: &Problem, earlier: u32, s: Nano, later: u32, t: Nano) -> Declaration
     requires { (c : Constraint) × Declares p.now (bounds.Follow earlier s later t) c }
-    ensures declares { Declares (widened p.now extra) (bounds.Follow earlier s later t) (constraint result) }
+    ensures declares { (what : What) (extra : ℕ) → Declares (widened what p.now extra) (bounds.Follow earlier s later t) (constraint result) }
     ensures below { unsigned_abs result.weight < 2 ^ 93 }
 {
     Declaration {
@@ -204,31 +198,31 @@ fn following(p: &Problem, extra: Nano, earlier: u32, s: Nano, later: u32, t: Nan
     }
 }
 
-/// What `p` declares under the name of a bound, where each greatest delay of a message is `extra` ns greater: its ends, and
+/// What `p` declares under the name of a bound, where it is widened by `extra` ns, or parts per billion of rates: its ends, and
 /// its weight, which is below 2^93 in absolute value.
-pub fn declared(p: &Problem, extra: Nano, bound: &Bound) -> Declaration
+pub fn declared_in(p: &Problem, what: What, extra: Nano, bound: &Bound) -> Declaration
     requires { (c : Constraint) × Declares p.now bound.now c }
-    ensures declares { Declares (widened p.now extra) bound.now (constraint result) }
+    ensures declares { Declares (widened what p.now extra) bound.now (constraint result) }
     ensures below { unsigned_abs result.weight < 2 ^ 93 }
 {
     match *bound {
-        Bound::SpanMost { clock, s, t } => longest(clock, clock_at(p, clock), s, t),
-        Bound::SpanLeast { clock, s, t } => shortest(clock, clock_at(p, clock), s, t),
+        Bound::SpanMost { clock, s, t } => longest(clock, &clock_in(p, what, extra, clock), s, t),
+        Bound::SpanLeast { clock, s, t } => shortest(clock, &clock_in(p, what, extra, clock), s, t),
         Bound::Late(place) => {
             let event = event_at(p, place);
-            latest(place, event, clock_at(p, event.clock))
+            latest(place, event, &clock_in(p, what, extra, event.clock))
         }
         Bound::Early(place) => {
             let event = event_at(p, place);
-            earliest(place, event, clock_at(p, event.clock))
+            earliest(place, event, &clock_in(p, what, extra, event.clock))
         }
         Bound::Follow {
             earlier,
             s,
             later,
             t,
-        } => following(p, extra, earlier, s, later, t),
-        Bound::DelayMost { send, receive } => slowest_between(p, extra, send, receive),
-        Bound::DelayLeast { send, receive } => quickest(message_between(p, send, receive)),
+        } => following(p, earlier, s, later, t),
+        Bound::DelayMost { send, receive } => slowest_between(p, what, extra, send, receive),
+        Bound::DelayLeast { send, receive } => quickest_between(p, what, extra, send, receive),
     }
 }

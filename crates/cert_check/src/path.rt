@@ -16,8 +16,8 @@ ghost use Rattle.std.specs.Prelude.{IfSome};
 ghost use Rattle.problem_model.specs.Limits.{most_steps, walk_bits};
 
 use crate::answer::{Part, Reason};
-use crate::declared::no_extra;
 use crate::walk::{Held, Walk, walk_over};
+use crate::what::{Links, What, no_extra};
 use atto::Units;
 use cert::Chain;
 use problem::Problem;
@@ -69,7 +69,14 @@ pub fn path_fault(
 {
     // It tells that the problem is lawful.
     let _ = p.events();
-    match walk_over(p, no_extra(), part, &Node::Event(second), path) {
+    match walk_over(
+        p,
+        What::Delays(Links::All),
+        no_extra(),
+        part,
+        &Node::Event(second),
+        path,
+    ) {
         Walk::Astray(step) => Some(Reason::Join(step)),
         Walk::Misweighed(step) => Some(Reason::Weight(step)),
         Walk::Arrived(held) => arrival_fault(part, held, first, value, path.len()),

@@ -12,7 +12,8 @@ use std::alloc::Global;
 pub fn check_text(alloc: Global, p: &Problem, text: &[u8]) -> Result<Answer, CertError>
     ensures { ChecksText p.now text.now result }
 {
-    let _readings = p.readings();
+    // It tells that the problem is lawful.
+    let _ = p.readings();
     match read_cert(alloc, p, text) {
         Ok(c) => Ok(check(p, &c)),
         Err(error) => Err(error),

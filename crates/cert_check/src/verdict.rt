@@ -11,9 +11,11 @@ ghost use Rattle.cert.specs.CertificateText.{HasOneEach};
 ghost use Rattle.cert_check.specs.Reasons.{joining_bounds};
 ghost use Rattle.cert_check.specs.Verdict.{Judges, IsVerdict, AreTimes};
 ghost use Rattle.cert_check.specs.Sizes.{IsSmallVerdict};
-ghost use Rattle.cert_check.specs.Widened.{widened};
+ghost use Rattle.cert_check.specs.declared.what.What.{What};
+ghost use Rattle.cert_check.specs.Widened.{with_delays, widened};
 
-use crate::declared::{listed_bound, no_extra, widened_units};
+use crate::declared::{listed_bound, widened_units};
+use crate::what::{Links, What, added_to, clock_in, least_left, no_extra};
 use atto::{Nano, Units, delay_units, span_least, span_most};
 use cert::Execution;
 use problem::Problem;
@@ -87,10 +89,10 @@ fn judge_stamp(place: u32, event: &Event, clock: &Clock, reading: Units, time: U
     }
 }
 
-// Judges the bound on the greatest delay of a message, where there is one, in a problem that is widened.
-fn judge_most(message: &Message, extra: Nano, send: Units, receive: Units) -> Verdict
-    ensures verdict { (p : ProblemLists) (x : Times) → IsWellFormed p → Contains p.messages message.now → x (nodes.Event message.now.send) ≡ send → x (nodes.Event message.now.receive) ≡ receive
-        → Judges (widened p extra) x (most_bound message.now message.now.most) result }
+// Judges the bound on the greatest delay of a message, where there is one, so many ns greater.
+fn judge_most(message: &Message, added: Nano, send: Units, receive: Units) -> Verdict
+    ensures verdict { (p : ProblemLists) (x : Times) (least : ℕ) → IsWellFormed p → Contains p.messages (with_delays least added message.now) → x (nodes.Event message.now.send) ≡ send → x (nodes.Event message.now.receive) ≡ receive
+        → Judges p x (most_bound message.now message.now.most) result }
     ensures small { IsSmallVerdict result }
 {
     match message.most {
@@ -99,25 +101,31 @@ fn judge_most(message: &Message, extra: Nano, send: Units, receive: Units) -> Ve
                 send: message.send,
                 receive: message.receive,
             };
-            judge(bound, widened_units(most, extra), send, receive)
+            judge(bound, widened_units(most, added), send, receive)
         }
         None => Verdict::Obeys,
     }
 }
 
-// Judges the bounds on the delay of a message in a problem that is widened.
-fn judge_message(message: &Message, extra: Nano, send: Units, receive: Units) -> Verdict
-    ensures verdict { (p : ProblemLists) (x : Times) → IsWellFormed p → Contains p.messages message.now → x (nodes.Event message.now.send) ≡ send → x (nodes.Event message.now.receive) ≡ receive
-        → Judges (widened p extra) x (message_bounds message.now) result }
+// Judges the bounds on the delay of a message that has this least delay, and its greatest one so many ns greater.
+fn judge_message(
+    message: &Message,
+    least: Nano,
+    added: Nano,
+    send: Units,
+    receive: Units,
+) -> Verdict
+    ensures verdict { (p : ProblemLists) (x : Times) → IsWellFormed p → Contains p.messages (with_delays least added message.now) → x (nodes.Event message.now.send) ≡ send → x (nodes.Event message.now.receive) ≡ receive
+        → Judges p x (message_bounds message.now) result }
     ensures small { IsSmallVerdict result }
 {
-    match judge_most(message, extra, send, receive) {
+    match judge_most(message, added, send, receive) {
         Verdict::Obeys => {
             let bound = Bound::DelayLeast {
                 send: message.send,
                 receive: message.receive,
             };
-            judge(bound, -delay_units(message.least), receive, send)
+            judge(bound, -delay_units(least), receive, send)
         }
         broken => broken,
     }
@@ -134,24 +142,23 @@ fn place_of(p: &Problem, clock: u32, stamp: Nano) -> usize
     }
 }
 
-// Judges the bounds over the span of two neighbouring readings, if they are of one clock.
+// Judges the bounds over the span of two neighbouring readings, if they are of one clock, which is that of the first.
 fn judge_neighbours(
-    clocks: &[Clock],
+    clock: &Clock,
     a: (u32, Nano),
     b: (u32, Nano),
     from: Units,
     to: Units,
 ) -> Verdict
-    requires clock { a.0 < length clocks.now }
-    requires rising { a.0 ≡ b.0 → a.1 < b.1 }
-    ensures verdict { (p : ProblemLists) (x : Times) → IsWellFormed p → clocks.now ≡ p.clocks → IsReading p a.0 a.1 → IsReading p b.0 b.1 → x (nodes.Reading a.0 a.1) ≡ from → x (nodes.Reading b.0 b.1) ≡ to
+    requires { a.0 ≡ b.0 → a.1 < b.1 }
+    ensures verdict { (p : ProblemLists) (x : Times) → IsWellFormed p → ClockAt p a.0 clock.now → IsReading p a.0 a.1 → IsReading p b.0 b.1 → x (nodes.Reading a.0 a.1) ≡ from → x (nodes.Reading b.0 b.1) ≡ to
         → Judges p x (neighbour_bounds a b) result }
     ensures small { IsSmallVerdict result }
 {
     if a.0 != b.0 {
         return Verdict::Obeys;
     }
-    judge_span(a.0, &clocks[a.0 as usize], a.1, b.1, from, to)
+    judge_span(a.0, clock, a.1, b.1, from, to)
 }
 
 // The real time of the reading at a place.
@@ -172,19 +179,23 @@ pub(crate) fn event_time(p: &Problem, e: &Execution, place: u32) -> Units
     e.value(place)
 }
 
-// Judges the bounds over the spans of neighbouring readings, which are those of the problem however it is widened.
-fn judge_spans(p: &Problem, e: &Execution) -> Verdict
+// Judges the bounds over the spans of neighbouring readings in a problem that is widened.
+fn judge_spans(p: &Problem, what: What, extra: Nano, e: &Execution) -> Verdict
     requires { HasOneEach p.now e.now }
-    ensures verdict { (extra : ℕ) (x : Times) (readings : List Reading) → AreTimes p.now x readings e.now → Judges (widened p.now extra) x (span_bounds readings) result }
+    ensures verdict { (x : Times) (readings : List Reading) → AreTimes p.now x readings e.now → Judges (widened what p.now extra) x (span_bounds readings) result }
     ensures small { IsSmallVerdict result }
 {
-    let clocks = p.clocks();
+    // It tells that the problem is lawful.
+    let _ = p.clocks();
     let readings = p.readings();
     let last = readings.len().saturating_sub(1);
     for place in 0..last {
+        let a = readings[place];
+        let b = readings[place + 1];
+        let clock = clock_in(p, what, extra, a.0);
         let from = reading_time(p, e, place);
         let to = reading_time(p, e, place + 1);
-        match judge_neighbours(clocks, readings[place], readings[place + 1], from, to) {
+        match judge_neighbours(&clock, a, b, from, to) {
             Verdict::Obeys => {}
             broken => return broken,
         }
@@ -192,18 +203,19 @@ fn judge_spans(p: &Problem, e: &Execution) -> Verdict
     Verdict::Obeys
 }
 
-// Judges the bounds on the stamps of events, which are those of the problem however it is widened.
-fn judge_stamps(p: &Problem, e: &Execution) -> Verdict
+// Judges the bounds on the stamps of events in a problem that is widened.
+fn judge_stamps(p: &Problem, what: What, extra: Nano, e: &Execution) -> Verdict
     requires { HasOneEach p.now e.now }
-    ensures verdict { (extra : ℕ) (x : Times) (readings : List Reading) → AreTimes p.now x readings e.now → Judges (widened p.now extra) x (event_bounds 0 p.now.events) result }
+    ensures verdict { (x : Times) (readings : List Reading) → AreTimes p.now x readings e.now → Judges (widened what p.now extra) x (event_bounds 0 p.now.events) result }
     ensures small { IsSmallVerdict result }
 {
-    let clocks = p.clocks();
+    // It tells that the problem is lawful.
+    let _ = p.clocks();
     for (place, event) in p.events().iter().enumerate() {
-        let clock = &clocks[event.clock as usize];
+        let clock = clock_in(p, what, extra, event.clock);
         let reading = reading_time(p, e, place_of(p, event.clock, event.stamp));
         let time = event_time(p, e, place as u32);
-        match judge_stamp(place as u32, event, clock, reading, time) {
+        match judge_stamp(place as u32, event, &clock, reading, time) {
             Verdict::Obeys => {}
             broken => return broken,
         }
@@ -212,15 +224,17 @@ fn judge_stamps(p: &Problem, e: &Execution) -> Verdict
 }
 
 // Judges the bounds on the delays of messages in a problem that is widened.
-fn judge_messages(p: &Problem, extra: Nano, e: &Execution) -> Verdict
+fn judge_messages(p: &Problem, what: What, extra: Nano, e: &Execution) -> Verdict
     requires { HasOneEach p.now e.now }
-    ensures verdict { (x : Times) (readings : List Reading) → AreTimes p.now x readings e.now → Judges (widened p.now extra) x (flat_map message_bounds p.now.messages) result }
+    ensures verdict { (x : Times) (readings : List Reading) → AreTimes p.now x readings e.now → Judges (widened what p.now extra) x (flat_map message_bounds p.now.messages) result }
     ensures small { IsSmallVerdict result }
 {
     for message in p.messages() {
+        let least = least_left(p, what, extra, message);
+        let added = added_to(p, what, extra, message);
         let send = event_time(p, e, message.send);
         let receive = event_time(p, e, message.receive);
-        match judge_message(message, extra, send, receive) {
+        match judge_message(message, least, added, send, receive) {
             Verdict::Obeys => {}
             broken => return broken,
         }
@@ -233,8 +247,8 @@ fn judge_messages(p: &Problem, extra: Nano, e: &Execution) -> Verdict
 fn judge_follow(p: &Problem, e: &Execution, later: u32) -> Verdict
     requires each { HasOneEach p.now e.now }
     requires later { later < length p.now.clocks }
-    ensures verdict { (extra : ℕ) (x : Times) (readings : List Reading) → AreTimes p.now x readings e.now
-        → Judges (widened p.now extra) x (follow_bound (nearest_reading readings (clocks_before p.now.follows later later)) (first_reading readings later)) result }
+    ensures verdict { (what : What) (extra : ℕ) (x : Times) (readings : List Reading) → AreTimes p.now x readings e.now
+        → Judges (widened what p.now extra) x (follow_bound (nearest_reading readings (clocks_before p.now.follows later later)) (first_reading readings later)) result }
     ensures small { IsSmallVerdict result }
 {
     // It tells that the problem is lawful.
@@ -253,7 +267,7 @@ fn judge_follow(p: &Problem, e: &Execution, later: u32) -> Verdict
 // Judges the follows of the short list, which are those of the problem however it is widened.
 fn judge_follows(p: &Problem, e: &Execution) -> Verdict
     requires { HasOneEach p.now e.now }
-    ensures verdict { (extra : ℕ) (x : Times) (readings : List Reading) → AreTimes p.now x readings e.now → Judges (widened p.now extra) x (follow_bounds p.now.follows readings 0 p.now.clocks) result }
+    ensures verdict { (what : What) (extra : ℕ) (x : Times) (readings : List Reading) → AreTimes p.now x readings e.now → Judges (widened what p.now extra) x (follow_bounds p.now.follows readings 0 p.now.clocks) result }
     ensures small { IsSmallVerdict result }
 {
     for later in 0..p.clocks().len() as u32 {
@@ -266,31 +280,31 @@ fn judge_follows(p: &Problem, e: &Execution) -> Verdict
 }
 
 // Judges the bounds that join two clocks in a problem that is widened: the follows of the short list, then the messages.
-fn judge_joining(p: &Problem, extra: Nano, e: &Execution) -> Verdict
+fn judge_joining(p: &Problem, what: What, extra: Nano, e: &Execution) -> Verdict
     requires { HasOneEach p.now e.now }
-    ensures verdict { (x : Times) (readings : List Reading) → AreTimes p.now x readings e.now → Judges (widened p.now extra) x (joining_bounds p.now readings) result }
+    ensures verdict { (x : Times) (readings : List Reading) → AreTimes p.now x readings e.now → Judges (widened what p.now extra) x (joining_bounds p.now readings) result }
     ensures small { IsSmallVerdict result }
 {
     match judge_follows(p, e) {
-        Verdict::Obeys => judge_messages(p, extra, e),
+        Verdict::Obeys => judge_messages(p, what, extra, e),
         broken => broken,
     }
 }
 
-/// Whether an execution of `p` obeys every bound that `p` declares where each greatest delay of a message is `extra` ns
-/// greater, between every two readings of a clock and of clocks that come after each other; else the first bound of the
-/// short list that it breaks. Its weight, which is then the greater one, is below 2^93 in absolute value, and the difference
-/// at most 2^121. It takes no memory.
-pub fn obeys_widened(p: &Problem, extra: Nano, e: &Execution) -> Verdict
+/// Whether an execution of `p` obeys every bound that `p` declares where it is widened by `extra` ns, or parts per billion of
+/// rates, between every two readings of a clock and of clocks that come after each other; else the first bound of the short
+/// list that it breaks. Its weight, which is that of the widened problem, is below 2^93 in absolute value, and the
+/// difference at most 2^121. It takes no memory.
+pub fn obeys_widened(p: &Problem, what: What, extra: Nano, e: &Execution) -> Verdict
     requires { HasOneEach p.now e.now }
-    ensures verdict { (x : Times) → Lists p.now x e.now → IsVerdict (widened p.now extra) x result }
+    ensures verdict { (x : Times) → Lists p.now x e.now → IsVerdict (widened what p.now extra) x result }
     ensures small { IsSmallVerdict result }
 {
     // It tells that the problem is lawful.
     let _ = p.events();
-    match judge_spans(p, e) {
-        Verdict::Obeys => match judge_stamps(p, e) {
-            Verdict::Obeys => judge_joining(p, extra, e),
+    match judge_spans(p, what, extra, e) {
+        Verdict::Obeys => match judge_stamps(p, what, extra, e) {
+            Verdict::Obeys => judge_joining(p, what, extra, e),
             broken => broken,
         },
         broken => broken,
@@ -305,5 +319,5 @@ pub fn obeys(p: &Problem, e: &Execution) -> Verdict
     ensures verdict { (x : Times) → Lists p.now x e.now → IsVerdict p.now x result }
     ensures small { IsSmallVerdict result }
 {
-    obeys_widened(p, no_extra(), e)
+    obeys_widened(p, What::Delays(Links::All), no_extra(), e)
 }

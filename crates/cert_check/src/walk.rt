@@ -7,7 +7,8 @@ ghost use Rattle.cert_check.specs.Sizes.{IsSmallWalk};
 ghost use Rattle.cert_check.specs.Widened.{widened};
 
 use crate::answer::Part;
-use crate::declared::{Declaration, declared};
+use crate::declared::{Declaration, declared_in};
+use crate::what::What;
 use atto::Nano;
 use cert::Chain;
 use problem::Problem;
@@ -67,11 +68,17 @@ fn onward(part: Part, held: Held, bound: &Declaration, taken: usize) -> Held
 }
 
 /// Walks over the steps from a node, in an upper part against their bounds and elsewhere along them. Each step must be
-/// entered where the walk has come to, and have the weight of its bound where each greatest delay of a message is `extra` ns
-/// greater. The sum of all is below 2^116 in absolute value. It takes no memory.
-pub fn walk_over(p: &Problem, extra: Nano, part: Part, start: &Node, chain: &Chain) -> Walk
+/// entered where the walk has come to, and have the weight of its bound where the problem is widened by `extra`. The sum of all is below 2^116 in absolute value. It takes no memory.
+pub fn walk_over(
+    p: &Problem,
+    what: What,
+    extra: Nano,
+    part: Part,
+    start: &Node,
+    chain: &Chain,
+) -> Walk
     requires { All (IsStepOf p.now) chain.now }
-    ensures walk { IsWalk (widened p.now extra) part start.now chain.now result }
+    ensures walk { IsWalk (widened what p.now extra) part start.now chain.now result }
     ensures small { IsSmallWalk result }
 {
     let count = chain.len();
@@ -82,7 +89,7 @@ pub fn walk_over(p: &Problem, extra: Nano, part: Part, start: &Node, chain: &Cha
     };
     for k in 0..count {
         let step = &steps[k as usize];
-        let bound = declared(p, extra, &step.bound);
+        let bound = declared_in(p, what, extra, &step.bound);
         if entry(part, &bound) != held.node {
             return Walk::Astray(k + 1);
         }

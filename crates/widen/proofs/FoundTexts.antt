@@ -31,8 +31,10 @@ use Rattle.attain.proofs.Accepted.{values_fit, weights_fit}
 use Rattle.attain.proofs.EndLengths.{three, values_up_to, weights_up_to}
 use Rattle.cert_check.specs.declared.answer.Answer as judged
 use Rattle.cert_check.specs.declared.answer.Answer.TheVariants.{Yes}
+use Rattle.cert_check.specs.declared.what.What.{What}
 use Rattle.cert_check.specs.Widened.{widened}
-use Rattle.cert_check.proofs.Widening.{widened_from, readings_back}
+use Rattle.cert_check.proofs.Widening.{readings_back}
+use Rattle.cert_check.proofs.Comparing.{declared_back}
 use Rattle.widen.specs.declared.widening.Widening.{Widening}
 use Rattle.widen.specs.declared.widening.Widening.TheVariants.{Least, Never}
 use Rattle.widen.specs.Least.{most_extra, IsLeastWidening, HasNoWidening}
@@ -42,89 +44,71 @@ use Rattle.widen.specs.ReadsWidening.{FitsCycle, FitsWidening, IsWideningTextOf}
 use Rattle.widen.specs.JudgedText.{JudgesText}
 use Rattle.widen.specs.Found.{IsRunAt, IsCycleAt, IsFoundBelow, FindsWidening}
 use Rattle.widen.proofs.Solved.{wider}
-use Rattle.widen.proofs.Rising.{unwidened, shown_least, shown_never}
+use Rattle.widen.proofs.Rising.{shown_least, shown_never}
 use Rattle.widen.proofs.Readable.{read_again}
 
 -- ---- bounds of the widened problem are bounds of the problem
-module _ (p : ProblemLists) (e : ℕ) where
-  pub declared_back : (b : Bound) (c : Constraint) → Declares (widened p e) b c → (d : Constraint) × Declares p b d
-  declared_back (SpanMost clock s t) c d = (c, d)
-  declared_back (SpanLeast clock s t) c d = (c, d)
-  declared_back (Late k) c d = (c, d)
-  declared_back (Early k) c d = (c, d)
-  declared_back (Follow k s l t) c d = (c, d)
-  declared_back (DelayMost send receive) c (m, most, has, from, to, at, is) =
-      let origin = widened_from e p.messages m has in
-      let plain = unwidened e most origin.0.most (ap (λ (v : Message). v.most) (sym origin.2) ∙ at) in (
-        record { from = nodes.Event send; to = nodes.Event receive; weight = pos (plain.0 * 1000000000) },
-        (origin.0, plain.0, origin.1, sym (ap (λ (v : Message). v.send) origin.2) ∙ from, sym (ap (λ (v : Message). v.receive) origin.2) ∙ to, plain.1, refl),
-      )
-  declared_back (DelayLeast send receive) c (m, has, from, to, is) =
-      let origin = widened_from e p.messages m has in (
-        record { from = nodes.Event receive; to = nodes.Event send; weight = neg_ℤ (pos (origin.0.least * 1000000000)) },
-        (origin.0, origin.1, sym (ap (λ (v : Message). v.send) origin.2) ∙ from, sym (ap (λ (v : Message). v.receive) origin.2) ∙ to, refl),
-      )
-
-  led_back : (steps : List Step) (m n : Node) → Leads (widened p e) m (weighed_bounds steps) n → All (IsStepOf p) steps
+module _ (what : What) (p : ProblemLists) (e : ℕ) where
+  led_back : (steps : List Step) (m n : Node) → Leads (widened what p e) m (weighed_bounds steps) n → All (IsStepOf p) steps
   led_back [] m n leads = All-nil (IsStepOf p)
-  led_back (s ∷ steps) m n (c, declares, weighs, begins, rest) = All-cons (IsStepOf p) s steps (declared_back s.bound c declares) (led_back steps c.to n rest)
+  led_back (s ∷ steps) m n (c, declares, weighs, begins, rest) = All-cons (IsStepOf p) s steps (declared_back what p e s.bound c declares) (led_back steps c.to n rest)
 
-  steps_back : (cycle : List Step) → IsCycleAt p e cycle → All (IsStepOf p) cycle
+  steps_back : (cycle : List Step) → IsCycleAt what p e cycle → All (IsStepOf p) cycle
   steps_back cycle found = let n = found.contradiction.closed.0 in led_back cycle n n found.contradiction.closed.1
 
-  one_each : (execution : List ℤ) → IsRunAt p e execution → HasOneEach p execution
+  one_each : (execution : List ℤ) → IsRunAt what p e execution → HasOneEach p execution
   one_each execution found =
       let listed = found.earliest.1 in
-      (listed.0, readings_back p e listed.0 listed.1, ap length listed.2 ∙ length-map (nodes_of p listed.0) found.earliest.0)
+      (listed.0, readings_back what p e listed.0 listed.1, ap length listed.2 ∙ length-map (nodes_of p listed.0) found.earliest.0)
 
-  runs : (execution : List ℤ) → IsRunAt p e execution → IsExecutionOf (widened p e) execution
+  runs : (execution : List ℤ) → IsRunAt what p e execution → IsExecutionOf (widened what p e) execution
   runs execution found = (found.earliest.0, found.earliest.1, found.earliest.2.execution)
 
-has_cycle : (p : ProblemLists) (extra : ℕ) (cycle : Option (List Step)) → IsFoundBelow p extra cycle → HasCycle p extra cycle
-has_cycle p extra None found = found
-has_cycle p extra (Some cycle) found = (found.0, steps_back p (extra - 1) cycle found.1)
+has_cycle : (what : What) (p : ProblemLists) (extra : ℕ) (cycle : Option (List Step)) → IsFoundBelow what p extra cycle → HasCycle p extra cycle
+has_cycle what p extra None found = found
+has_cycle what p extra (Some cycle) found = (found.0, steps_back what p (extra - 1) cycle found.1)
 
-shows_below : (p : ProblemLists) (extra : ℕ) (cycle : Option (List Step)) → IsFoundBelow p extra cycle → ShowsBelow p extra cycle
-shows_below p extra None found = tt
-shows_below p extra (Some cycle) found = found.1.contradiction
+shows_below : (what : What) (p : ProblemLists) (extra : ℕ) (cycle : Option (List Step)) → IsFoundBelow what p extra cycle → ShowsBelow what p extra cycle
+shows_below what p extra None found = tt
+shows_below what p extra (Some cycle) found = found.1.contradiction
 
-pub widening_of : (p : ProblemLists) (w : Widening) → FindsWidening p w → IsWideningOf p w
-widening_of p (Least extra execution cycle) found = (one_each p extra execution found.1, has_cycle p extra cycle found.2)
-widening_of p (Never cycle) found = steps_back p most_extra cycle found
+pub widening_of : (what : What) (p : ProblemLists) (w : Widening) → FindsWidening what p w → IsWideningOf p w
+widening_of what p (Least extra execution cycle) found = (one_each what p extra execution found.1, has_cycle what p extra cycle found.2)
+widening_of what p (Never cycle) found = steps_back what p most_extra cycle found
 
-pub shows : (p : ProblemLists) (w : Widening) → FindsWidening p w → ShowsWidening p w
-shows p (Least extra execution cycle) found = (runs p extra execution found.1, shows_below p extra cycle found.2)
-shows p (Never cycle) found = found.contradiction
+pub shows : (what : What) (p : ProblemLists) (w : Widening) → FindsWidening what p w → ShowsWidening what p w
+shows what p (Least extra execution cycle) found = (runs what p extra execution found.1, shows_below what p extra cycle found.2)
+shows what p (Never cycle) found = found.contradiction
 
-pub least_found : (p : ProblemLists) (extra : ℕ) (execution : List ℤ) (cycle : Option (List Step)) → FindsWidening p (Least extra execution cycle) → IsLeastWidening p extra
-least_found p extra execution cycle found = shown_least p extra execution cycle found.0 (widening_of p (Least extra execution cycle) found) (shows p (Least extra execution cycle) found)
+pub least_found : (what : What) (p : ProblemLists) (extra : ℕ) (execution : List ℤ) (cycle : Option (List Step)) → FindsWidening what p (Least extra execution cycle) → IsLeastWidening what p extra
+least_found what p extra execution cycle found = shown_least what p extra execution cycle found.0 (widening_of what p (Least extra execution cycle) found) (shows what p (Least extra execution cycle) found)
 
-pub never_found : (p : ProblemLists) (cycle : List Step) → FindsWidening p (Never cycle) → HasNoWidening p
-never_found p cycle found = shown_never p cycle found.contradiction
+pub never_found : (what : What) (p : ProblemLists) (cycle : List Step) → FindsWidening what p (Never cycle) → HasNoWidening what p
+never_found what p cycle found = shown_never what p cycle found.contradiction
 
 -- ---- texts
-module _ (p : ProblemLists) (readings : List Reading) (lawful : IsProblem p) (are : AreReadings p readings) where
-  steps_fit : (e : ℕ) (cycle : List Step) → IsCycleAt p e cycle → FitsSteps cycle
+module _ (what : What) (p : ProblemLists) (readings : List Reading) (lawful : IsProblem p) (are : AreReadings p readings) where
+  steps_fit : (e : ℕ) (cycle : List Step) → IsCycleAt what p e cycle → FitsSteps cycle
   steps_fit e cycle found = (weights_fit cycle found.small, (let few = few_nodes p readings lawful are in let short = found.short readings are in omega (arith, few, short)))
 
-  cycle_fits : (extra : ℕ) (cycle : Option (List Step)) → IsFoundBelow p extra cycle → FitsCycle cycle
+  cycle_fits : (extra : ℕ) (cycle : Option (List Step)) → IsFoundBelow what p extra cycle → FitsCycle cycle
   cycle_fits extra None found = tt
   cycle_fits extra (Some cycle) found = steps_fit (extra - 1) cycle found.1
 
-  fits : (w : Widening) → FindsWidening p w → FitsWidening w
+  fits : (w : Widening) → FindsWidening what p w → FitsWidening w
   fits (Least extra execution cycle) found = (found.0, values_fit execution (wider execution found.1.small), cycle_fits extra cycle found.2)
   fits (Never cycle) found = steps_fit most_extra cycle found
 
   -- of the 2 ^ 22 nodes at most each has a line of 100 bytes at most, and each step one of 149
-  steps_text : (e : ℕ) (cycle : List Step) → IsCycleAt p e cycle → length (cycle_lines p (Some cycle)) ≤ most_nodes * 149 + 6
+  steps_text : (e : ℕ) (cycle : List Step) → IsCycleAt what p e cycle → length (cycle_lines p (Some cycle)) ≤ most_nodes * 149 + 6
   steps_text e cycle found =
       let head : length (line_of (codes "cycle" ∷ [])) ≡ 5 + 1 + 0 = line_size (codes "cycle") [] in
-      let lines = steps_short p lawful cycle (steps_back p e cycle found) (weights_up_to cycle found.small) in
+      let lines = steps_short p lawful cycle (steps_back what p e cycle found) (weights_up_to cycle found.small) in
       let few = few_nodes p readings lawful are in
       let short = found.short readings are in
       omega (arith, length-append (line_of (codes "cycle" ∷ [])) (flat_map (step_line p) cycle), head, lines, few, short)
 
-  cycle_text : (extra : ℕ) (cycle : Option (List Step)) → IsFoundBelow p extra cycle → length (cycle_lines p cycle) ≤ most_nodes * 149 + 6
+  cycle_text : (extra : ℕ) (cycle : Option (List Step)) → IsFoundBelow what p extra cycle → length (cycle_lines p cycle) ≤ most_nodes * 149 + 6
   cycle_text extra None found = omega arith
   cycle_text extra (Some cycle) found = steps_text (extra - 1) cycle found.1
 
@@ -134,7 +118,7 @@ module _ (p : ProblemLists) (readings : List Reading) (lawful : IsProblem p) (ar
       let digits = length-decimal_of-le 19 extra (omega arith) (let below : 2 ^ 62 ≤ 10 ^ 19 = omega arith in omega (arith, within)) in
       omega (arith, size, digits)
 
-  lines_short : (w : Widening) → FindsWidening p w → length (widening_lines p (nodes_of p readings) w) ≤ most_nodes * 249 + 32
+  lines_short : (w : Widening) → FindsWidening what p w → length (widening_lines p (nodes_of p readings) w) ≤ most_nodes * 249 + 32
   lines_short (Least extra execution cycle) found =
       let values = values_short p lawful readings execution are (values_up_to execution (wider execution found.1.small)) in
       let few = few_nodes p readings lawful are in
@@ -143,14 +127,14 @@ module _ (p : ProblemLists) (readings : List Reading) (lawful : IsProblem p) (ar
       let size : length (line_of (least_words None)) ≡ 5 + 1 + (4 + 1 + 0) = line_size (codes "least") (codes "none" ∷ []) in
       omega (arith, length-append (line_of (least_words None)) (cycle_lines p (Some cycle)), size, steps_text most_extra cycle found)
 
-  text_short : (w : Widening) → FindsWidening p w → length (widening_text p (nodes_of p readings) w) ≤ most_text_bytes
+  text_short : (w : Widening) → FindsWidening what p w → length (widening_text p (nodes_of p readings) w) ≤ most_text_bytes
   text_short w found =
       let head : length (line_of widening_head) ≡ 8 + 1 + (1 + 1 + 0) = line_size (codes "widening") (codes "1" ∷ []) in
       let end : length (line_of (codes "end" ∷ [])) ≡ 3 + 1 + 0 = line_size (codes "end") [] in
       omega (arith, three (line_of widening_head) (widening_lines p (nodes_of p readings) w) (line_of (codes "end" ∷ [])), head, end, lines_short w found)
 
-  pub text_of : (w : Widening) → FindsWidening p w → IsWideningTextOf p readings w (widening_text p (nodes_of p readings) w)
-  text_of w found = (text_short w found, widening_of p w found, fits w found, refl)
+  pub text_of : (w : Widening) → FindsWidening what p w → IsWideningTextOf p readings w (widening_text p (nodes_of p readings) w)
+  text_of w found = (text_short w found, widening_of what p w found, fits w found, refl)
 
   -- ---- what is written is read again and judged
   same_widening : (v w : Widening) → ◌≡◌ {A = Result Widening CertError} (Ok v) (Ok w) → v ≡ w
@@ -159,9 +143,9 @@ module _ (p : ProblemLists) (readings : List Reading) (lawful : IsProblem p) (ar
   same_error : (e : CertError) → ◌≡◌ {A = Result Widening CertError} (Err e) (Err errors.Memory) → e ≡ errors.Memory
   same_error e is = cc
 
-  pub accepted : (w : Widening) (result : Result judged.Answer CertError) → FindsWidening p w → JudgesText p (widening_text p (nodes_of p readings) w) result → (result ≡ Ok Yes) ⊎ (result ≡ Err errors.Memory)
+  pub accepted : (w : Widening) (result : Result judged.Answer CertError) → FindsWidening what p w → JudgesText what p (widening_text p (nodes_of p readings) w) result → (result ≡ Ok Yes) ⊎ (result ≡ Err errors.Memory)
   accepted w (Ok answer) found (v, reads, is) = elim (read_again p readings lawful are w (widening_text p (nodes_of p readings) w) (Ok v) (text_of w found) (reads readings are)) [
-    | inl same ↦ inl (ap Ok (is.exact.0 (subst (ShowsWidening p) (sym (same_widening v w same)) (shows p w found))))
+    | inl same ↦ inl (ap Ok (is.exact.0 (subst (ShowsWidening what p) (sym (same_widening v w same)) (shows what p w found))))
     | inr other ↦ absurd cc
   ]
   accepted w (Err e) found reads = elim (read_again p readings lawful are w (widening_text p (nodes_of p readings) w) (Err e) (text_of w found) (reads readings are)) [

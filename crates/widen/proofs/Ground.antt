@@ -12,9 +12,11 @@ use Rattle.sync_graph.specs.Graph.{GraphLists, IsGraph}
 use Rattle.sync_graph.specs.InForce.{IsEarliestOf}
 use Rattle.earliest.specs.Inserted.{IsNegativeCycle}
 use Rattle.problem_solver.specs.Order.{AreAllArcs}
+use Rattle.cert_check.specs.declared.what.What.{What}
 use Rattle.cert_check.specs.Widened.{widened}
-use Rattle.cert_check.proofs.Widening.{formed, readings_on, not_widened}
-use Rattle.widen.specs.Raised.{raised_arc}
+use Rattle.cert_check.proofs.Widening.{formed, readings_on}
+use Rattle.cert_check.proofs.Comparing.{unwidened}
+use Rattle.widen.specs.Weighed.{unweighed}
 use Rattle.problem_graph.specs.HeldBounds.{HoldsShortList}
 use Rattle.widen.specs.Found.{IsRunAt, IsCycleFor}
 use Rattle.widen.proofs.Solved.{earliest_of, values_under, sound_arc, cycle_contradicts, cycle_short}
@@ -28,26 +30,25 @@ pub as_they_stand : (g : GraphLists) (order : List ℕ) (n : ℕ) → n ≡ leng
 as_they_stand g order n all is =
     subst (λ (ks : List ℕ). IsPermutation (range_with_len 0 (length g.arcs)) ks) (sym (is ∙ ap (range_with_len 0) all)) (IsPermutation-refl (range_with_len 0 (length g.arcs)))
 
-pub arcs_long : (e : ℕ) (g h : GraphLists) → h.arcs ≡ map (raised_arc e) g.arcs → length h.arcs ≡ length g.arcs
-arcs_long e g h arcs = ap length arcs ∙ length-map g.arcs (raised_arc e)
+pub all_arcs : (g h : GraphLists) (order : List ℕ) → map unweighed h.arcs ≡ map unweighed g.arcs → AreAllArcs g order → AreAllArcs h order
+all_arcs g h order same all =
+    let long : length g.arcs ≡ length h.arcs = sym (length-map g.arcs unweighed) ∙ ap length (sym same) ∙ length-map h.arcs unweighed in
+    subst (λ (n : ℕ). IsPermutation (range_with_len 0 n) order) long all
 
-pub all_arcs : (e : ℕ) (g h : GraphLists) (order : List ℕ) → h.arcs ≡ map (raised_arc e) g.arcs → AreAllArcs g order → AreAllArcs h order
-all_arcs e g h order arcs all = subst (λ (n : ℕ). IsPermutation (range_with_len 0 n) order) (sym (arcs_long e g h arcs)) all
-
-module _ (p : ProblemLists) (e : ℕ) (g : GraphLists) (lawful : IsProblem p) (is : IsGraph g) (readings : List Reading) (are : AreReadings p readings) (holds : HoldsShortList (widened p e) g) where
-  pub run_found : (values : List ℤ) → IsEarliestOf g values → IsRunAt p e values
+module _ (what : What) (p : ProblemLists) (e : ℕ) (g : GraphLists) (lawful : IsProblem p) (is : IsGraph g) (readings : List Reading) (are : AreReadings p readings) (holds : HoldsShortList (widened what p e) g) where
+  pub run_found : (values : List ℤ) → IsEarliestOf g values → IsRunAt what p e values
   run_found values earliest = record {
-    earliest = earliest_of (widened p e) g (formed p e lawful.formed) is readings (readings_on p e readings are) holds values earliest;
+    earliest = earliest_of (widened what p e) g (formed what p e lawful.formed) is readings (readings_on what p e readings are) holds values earliest;
     small = values_under g is values earliest;
   }
 
-  pub cycle_found : (arcs : List Arc) → IsNegativeCycle g arcs → IsCycleFor p e arcs
+  pub cycle_found : (arcs : List Arc) → IsNegativeCycle g arcs → IsCycleFor what p e arcs
   cycle_found arcs cycle = record {
-    contradiction = cycle_contradicts (widened p e) g is readings (readings_on p e readings are) holds arcs cycle;
-    short = λ rs are'. cycle_short (widened p e) g is readings (readings_on p e readings are) holds arcs cycle rs (readings_on p e rs are');
-    small = λ i d inside. sound_arc (widened p e) g is readings (readings_on p e readings are) holds (get_or arcs i d) (cycle.in_force i d inside);
+    contradiction = cycle_contradicts (widened what p e) g is readings (readings_on what p e readings are) holds arcs cycle;
+    short = λ rs are'. cycle_short (widened what p e) g is readings (readings_on what p e readings are) holds arcs cycle rs (readings_on what p e rs are');
+    small = λ i d inside. sound_arc (widened what p e) g is readings (readings_on what p e readings are) holds (get_or arcs i d) (cycle.in_force i d inside);
   }
 
 -- widened by nothing
-pub holds_unwidened : (p : ProblemLists) (g : GraphLists) → HoldsShortList p g → HoldsShortList (widened p 0) g
-holds_unwidened p g holds = subst (λ (q : ProblemLists). HoldsShortList q g) (sym (not_widened p)) holds
+pub holds_unwidened : (what : What) (p : ProblemLists) (g : GraphLists) → IsProblem p → HoldsShortList p g → HoldsShortList (widened what p 0) g
+holds_unwidened what p g lawful holds = subst (λ (q : ProblemLists). HoldsShortList q g) (sym (unwidened what p lawful.fits)) holds

@@ -6,10 +6,9 @@ pub mod Growing
 pub mod Taking
 pub mod Reading
 pub mod Readable
-pub mod Raising
+pub mod Weighing
 pub mod AnyOrder
 pub mod Solved
-pub mod RaisedGraphs
 pub mod FoundTexts
 pub mod Summing
 pub mod Concluding

@@ -28,7 +28,7 @@ use Rattle.sync_graph.proofs.InForce.{no_arc, in_force_below, arcs_listed, arcs_
 use Rattle.earliest.specs.Inserted.{IsNegativeCycle}
 use Rattle.attain.specs.Tight.{IsUnder}
 use Rattle.attain.proofs.EndLengths.{values_up_to}
-use Rattle.widen.specs.Raised.{weighed_arcs}
+use Rattle.widen.specs.Weighed.{weighed_arcs}
 use Rattle.problem_graph.specs.HeldBounds.{HoldsShortList}
 use Rattle.widen.specs.Found.{AreEarliestOf}
 use Rattle.widen.proofs.AnyOrder.{stands_any}

@@ -1,4 +1,4 @@
--- Weights and greatest delays of arcs, counted one arc after another.
+-- Weights of arcs, counted one arc after another.
 use Rattle.std.proofs.Common.{◌≡◌, ◌<◌, ◌≤◌, ◌+◌, ◌*◌, ◌^◌, ℕ, zero, suc, List, [], ◌∷◌, length, drop, get_or, refl, sym, ◌∙◌, ap, subst, arith, to_z, of_z}
 use Rattle.std.specs.Prelude.{ℤ, pos, neg_ℤ, ◌+ℤ◌, ◌<ℤ◌, unsigned_abs}
 use mir.Syntax.{w128}
@@ -8,7 +8,7 @@ use Rattle.problem_model.specs.Numbers.{IsUpTo}
 use Rattle.problem_model.specs.Solutions.{weight_of}
 use Rattle.problem_model.specs.Limits.{most_nodes, path_bits}
 use Rattle.sync_graph.specs.declared.arc.Arc.{Arc}
-use Rattle.widen.specs.Raised.{one_delay, delays_of, weighed_arcs}
+use Rattle.widen.specs.Weighed.{weighed_arcs}
 
 drop_suc : (arcs : List Arc) (k : ℕ) (d : Arc) → k < length arcs → drop k arcs ≡ get_or arcs k d ∷ drop (suc k) arcs
 drop_suc [] k d inside = absurd (omega (arith, inside))
@@ -27,17 +27,6 @@ drop_end (a ∷ arcs) zero past = absurd (omega (arith, past))
 drop_end (a ∷ arcs) (suc k) past = drop_end arcs k (omega (arith, past))
 
 module _ (arcs : List Arc) where
-  pub delays_next : (k delays delay : ℕ) (a : Arc) → k < length arcs → a ≡ get_or arcs k a → delay ≡ one_delay a.name → delays + delays_of (weighed_arcs (drop k arcs)) ≡ delays_of (weighed_arcs arcs)
-      → delays + delay + delays_of (weighed_arcs (drop (k + 1) arcs)) ≡ delays_of (weighed_arcs arcs)
-  delays_next k delays delay a inside is one so_far =
-      let here : delays_of (weighed_arcs (drop k arcs)) ≡ one_delay a.name + delays_of (weighed_arcs (drop (k + 1) arcs)) = ap (λ (rest : List Arc). delays_of (weighed_arcs rest)) (drop_next arcs k a inside is) in
-      omega (arith, here, so_far, one)
-
-  pub delays_all : (k delays : ℕ) → length arcs ≤ k → delays + delays_of (weighed_arcs (drop k arcs)) ≡ delays_of (weighed_arcs arcs) → delays ≡ delays_of (weighed_arcs arcs)
-  delays_all k delays past so_far =
-      let none : delays_of (weighed_arcs (drop k arcs)) ≡ 0 = ap (λ (rest : List Arc). delays_of (weighed_arcs rest)) (drop_end arcs k past) in
-      omega (arith, none, so_far)
-
   pub sum_next : (k : ℕ) (sum sum' : ℤ) (a : Arc) → k < length arcs → a ≡ get_or arcs k a → sum' ≡ sum +ℤ a.weight → sum +ℤ weight_of (weighed_arcs (drop k arcs)) ≡ weight_of (weighed_arcs arcs)
       → sum' +ℤ weight_of (weighed_arcs (drop (k + 1) arcs)) ≡ weight_of (weighed_arcs arcs)
   sum_next k sum sum' a inside is more so_far =

@@ -5,6 +5,8 @@ use Rattle.problem_model.specs.declared.items.Bound.TheVariants.{SpanMost, SpanL
 use Rattle.problem_model.specs.Problem.{ProblemLists}
 use Rattle.problem_model.specs.Nodes.{Reading, nodes_of}
 use Rattle.cert.specs.declared.chain.Step.{Step}
+use Rattle.cert_check.specs.declared.what.Links.TheVariants as links
+use Rattle.cert_check.specs.declared.what.What.TheVariants.{Delays}
 use Rattle.cert_check.specs.Widened.{widened}
 use Rattle.widen.specs.declared.widening.Widening.TheVariants.{Least, Never}
 use Rattle.widen.specs.WideningText.{widening_text}
@@ -23,10 +25,10 @@ contradicting most = record {
 }
 
 -- each greatest delay is 3 ns greater, and no least one; where there is none nothing changes
-worked-widened : widened (contradicting (Some 20)) 3 ≡ contradicting (Some 23)
+worked-widened : widened (Delays links.All) (contradicting (Some 20)) 3 ≡ contradicting (Some 23)
 worked-widened = refl
 
-worked-none : widened (contradicting None) 3 ≡ contradicting None
+worked-none : widened (Delays links.All) (contradicting None) 3 ≡ contradicting None
 worked-none = refl
 
 abbrev readings : List Reading

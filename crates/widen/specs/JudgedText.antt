@@ -4,16 +4,17 @@ use Rattle.problem_model.specs.Problem.{ProblemLists}
 use Rattle.cert.specs.declared.error.CertError.{CertError}
 use Rattle.cert_check.specs.declared.answer.Answer.{Answer}
 use Rattle.cert_check.specs.declared.answer.Answer.TheVariants.{Yes}
+use Rattle.cert_check.specs.declared.what.What.{What}
 use Rattle.widen.specs.declared.widening.Widening.{Widening}
 use Rattle.widen.specs.Widening.{ShowsWidening, IsJudged}
 use Rattle.widen.specs.ReadsWidening.{ReadsWidening}
 
 -- this is what judging the widening answers: yes exactly where it shows what it should
-pub record IsJudgedAs (p : ProblemLists) (w : Widening) (answer : Answer) : Type 0 where
-  pub judged : IsJudged p w answer
-  pub exact : ShowsWidening p w ↔ (answer ≡ Yes)
+pub record IsJudgedAs (what : What) (p : ProblemLists) (w : Widening) (answer : Answer) : Type 0 where
+  pub judged : IsJudged what p w answer
+  pub exact : ShowsWidening what p w ↔ (answer ≡ Yes)
 
 -- what judging the widening answers that the text spells, or why the text spells none
-abbrev pub JudgesText : ProblemLists → List ℕ → Result Answer CertError → Type 0
-JudgesText p text (Ok answer) = (w : Widening) × ReadsWidening p text (Ok w) × IsJudgedAs p w answer
-JudgesText p text (Err e) = ReadsWidening p text (Err e)
+abbrev pub JudgesText : What → ProblemLists → List ℕ → Result Answer CertError → Type 0
+JudgesText what p text (Ok answer) = (w : Widening) × ReadsWidening p text (Ok w) × IsJudgedAs what p w answer
+JudgesText what p text (Err e) = ReadsWidening p text (Err e)

@@ -5,6 +5,6 @@ pub mod WideningFormat
 pub mod ReadsWidening
 pub mod ReadsLines
 pub mod JudgedText
-pub mod Raised
+pub mod Weighed
 pub mod Found
 pub mod Search

@@ -9,6 +9,7 @@ use Rattle.cert.specs.Shows.{weighed_bounds, IsExecutionOf}
 use Rattle.cert_check.specs.declared.answer.Answer.{Answer}
 use Rattle.cert_check.specs.declared.answer.Answer.TheVariants.{Yes}
 use Rattle.cert_check.specs.Reasons.{IsAnswer}
+use Rattle.cert_check.specs.declared.what.What.{What}
 use Rattle.cert_check.specs.Widened.{widened}
 use Rattle.widen.specs.declared.widening.Widening.{Widening}
 use Rattle.widen.specs.declared.widening.Widening.TheVariants.{Least, Never}
@@ -26,25 +27,25 @@ IsWideningOf p (Least extra execution cycle) = HasOneEach p execution × HasCycl
 IsWideningOf p (Never cycle) = All (IsStepOf p) cycle
 
 -- ---- what a widening shows
--- a cycle is a contradiction of the problem that is widened by 1 ns less, with the weights that it has there
-abbrev pub ShowsBelow : ProblemLists → ℕ → Option (List Step) → Type 0
-ShowsBelow p extra None = Unit {0}
-ShowsBelow p extra (Some cycle) = IsContradictionOf (widened p (extra - 1)) (weighed_bounds cycle)
+-- a cycle is a contradiction of the problem that is widened by 1 less, with the weights that it has there
+abbrev pub ShowsBelow : What → ProblemLists → ℕ → Option (List Step) → Type 0
+ShowsBelow what p extra None = Unit {0}
+ShowsBelow what p extra (Some cycle) = IsContradictionOf (widened what p (extra - 1)) (weighed_bounds cycle)
 
--- the execution is one of the widened problem, and the cycle shows that less does not heal; or that nothing does: it is
+-- the execution is one of the widened what problem, and the cycle shows that less does not heal; or that nothing does: it is
 -- a contradiction where the problem is widened as far as can be
-abbrev pub ShowsWidening : ProblemLists → Widening → Type 0
-ShowsWidening p (Least extra execution cycle) = IsExecutionOf (widened p extra) execution × ShowsBelow p extra cycle
-ShowsWidening p (Never cycle) = IsContradictionOf (widened p most_extra) (weighed_bounds cycle)
+abbrev pub ShowsWidening : What → ProblemLists → Widening → Type 0
+ShowsWidening what p (Least extra execution cycle) = IsExecutionOf (widened what p extra) execution × ShowsBelow what p extra cycle
+ShowsWidening what p (Never cycle) = IsContradictionOf (widened what p most_extra) (weighed_bounds cycle)
 
 -- ---- what judging a widening answers
--- of the cycle: what checking it by the problem that is widened by 1 ns less answers
-abbrev pub IsAnswerBelow : ProblemLists → ℕ → Option (List Step) → Answer → Type 0
-IsAnswerBelow p extra None answer = answer ≡ Yes
-IsAnswerBelow p extra (Some cycle) answer = IsAnswer (widened p (extra - 1)) (certs.Cycle cycle) answer
+-- of the cycle: what checking it by the problem that is widened by 1 less answers
+abbrev pub IsAnswerBelow : What → ProblemLists → ℕ → Option (List Step) → Answer → Type 0
+IsAnswerBelow what p extra None answer = answer ≡ Yes
+IsAnswerBelow what p extra (Some cycle) answer = IsAnswer (widened what p (extra - 1)) (certs.Cycle cycle) answer
 
 -- what is wrong with the execution first; where nothing is, what is answered of the cycle
-abbrev pub IsJudged : ProblemLists → Widening → Answer → Type 0
-IsJudged p (Least extra execution cycle) answer =
-    (IsAnswer (widened p extra) (certs.Run execution) answer × (answer ≢ Yes)) ⊎ (IsExecutionOf (widened p extra) execution × IsAnswerBelow p extra cycle answer)
-IsJudged p (Never cycle) answer = IsAnswer (widened p most_extra) (certs.Cycle cycle) answer
+abbrev pub IsJudged : What → ProblemLists → Widening → Answer → Type 0
+IsJudged what p (Least extra execution cycle) answer =
+    (IsAnswer (widened what p extra) (certs.Run execution) answer × (answer ≢ Yes)) ⊎ (IsExecutionOf (widened what p extra) execution × IsAnswerBelow what p extra cycle answer)
+IsJudged what p (Never cycle) answer = IsAnswer (widened what p most_extra) (certs.Cycle cycle) answer

@@ -10,11 +10,13 @@ ghost use Rattle.cert_check.specs.Widened.{widened};
 ghost use Rattle.widen.specs.Found.{IsCycleFor};
 ghost use Rattle.widen.specs.Search.{IsTried};
 
-use crate::cycles::{last_rise, raised_chain, units};
-use crate::raised::widened_graph;
+use crate::cycles::{chain_of, last_of, sum_of, units};
+use crate::known::nano;
 use crate::tried::Tried;
+use crate::weighed::{arcs_in, widened_graph};
 use atto::Steps;
 use cert::Execution;
+use cert_check::What;
 use earliest::Earliest;
 use problem::Problem;
 use problem_solver::{GraphSolution, solve_graph};
@@ -38,29 +40,37 @@ fn execution_of(alloc: Global, e: &Earliest, nodes: u32) -> Result<Execution, Al
     Ok(execution)
 }
 
-// A contradiction, with the weights that it has where the problem is widened as far as it stays one.
-fn last_cycle(alloc: Global, p: &Problem, arcs: &[Arc], extra: u64) -> Result<Tried, AllocError>
+// A contradiction, with the weights that it has where the problem is widened as far as it is seen to last.
+fn last_cycle(
+    alloc: Global,
+    p: &Problem,
+    what: What,
+    arcs: &[Arc],
+    extra: u64,
+) -> Result<Tried, AllocError>
     requires extra { extra < 2 ^ 62 }
-    requires cycle { IsCycleFor p.now extra arcs.now }
-    ensures { IfOk result (λ tried. IsTried p.now extra tried) }
+    requires cycle { IsCycleFor what p.now extra arcs.now }
+    ensures { IfOk result (λ tried. IsTried what p.now extra tried) }
 {
     // They tell that the problem is lawful, and what the readings of the problem are.
     let _ = p.events();
     let _ = p.readings();
-    let rise = last_rise(arcs, extra);
-    let cycle = raised_chain(alloc, arcs, rise)?;
-    Ok(Tried::Cycle {
-        last: extra + rise,
-        cycle,
-    })
+    let last = last_of(p, what, arcs, extra);
+    let later = arcs_in(alloc, p, what, nano(last), arcs)?;
+    if sum_of(&later) < 0 {
+        let cycle = chain_of(alloc, &later)?;
+        return Ok(Tried::Cycle { last, cycle });
+    }
+    let cycle = chain_of(alloc, arcs)?;
+    Ok(Tried::Cycle { last: extra, cycle })
 }
 
 // The execution that the solver of a problem holds.
-fn run_held(alloc: Global, p: &Problem, s: &Solver) -> Result<Tried, AllocError>
+fn run_held(alloc: Global, p: &Problem, what: What, s: &Solver) -> Result<Tried, AllocError>
     requires current { IsCurrent s.now }
     requires solved { s.now.contradiction ≡ [] }
     requires graph { HoldsShortList p.now s.now.graph }
-    ensures { IfOk result (λ tried. IsTried p.now 0 tried) }
+    ensures { IfOk result (λ tried. IsTried what p.now 0 tried) }
 {
     // They tell that the problem is lawful, and what the readings of the problem are.
     let _ = p.events();
@@ -73,28 +83,28 @@ fn run_held(alloc: Global, p: &Problem, s: &Solver) -> Result<Tried, AllocError>
 }
 
 // The contradiction that the solver of a problem holds, as far as it lasts.
-fn cycle_held(alloc: Global, p: &Problem, s: &Solver) -> Result<Tried, AllocError>
+fn cycle_held(alloc: Global, p: &Problem, what: What, s: &Solver) -> Result<Tried, AllocError>
     requires current { IsCurrent s.now }
     requires held { s.now.contradiction ≡ [] → ⊥ }
     requires graph { HoldsShortList p.now s.now.graph }
-    ensures { IfOk result (λ tried. IsTried p.now 0 tried) }
+    ensures { IfOk result (λ tried. IsTried what p.now 0 tried) }
 {
     // They tell that the problem is lawful, and what the readings of the problem are.
     let _ = p.events();
     let _ = p.readings();
-    last_cycle(alloc, p, s.contradiction(), 0)
+    last_cycle(alloc, p, what, s.contradiction(), 0)
 }
 
 /// Tries to widen by nothing: what the solver of the problem holds.
-pub fn try_nothing(alloc: Global, p: &Problem, s: &Solver) -> Result<Tried, AllocError>
+pub fn try_nothing(alloc: Global, p: &Problem, what: What, s: &Solver) -> Result<Tried, AllocError>
     requires current { IsCurrent s.now }
     requires graph { HoldsShortList p.now s.now.graph }
-    ensures { IfOk result (λ tried. IsTried p.now 0 tried) }
+    ensures { IfOk result (λ tried. IsTried what p.now 0 tried) }
 {
     if s.contradiction().is_empty() {
-        run_held(alloc, p, s)
+        run_held(alloc, p, what, s)
     } else {
-        cycle_held(alloc, p, s)
+        cycle_held(alloc, p, what, s)
     }
 }
 
@@ -102,14 +112,15 @@ pub fn try_nothing(alloc: Global, p: &Problem, s: &Solver) -> Result<Tried, Allo
 fn said_of_problem(
     alloc: Global,
     p: &Problem,
+    what: What,
     g: &Graph,
     found: &GraphSolution,
     extra: u64,
 ) -> Result<Tried, AllocError>
     requires extra { extra < 2 ^ 62 }
-    requires graph { HoldsShortList (widened p.now extra) g.now }
+    requires graph { HoldsShortList (widened what p.now extra) g.now }
     requires found { IsGraphSolution g.now found.now }
-    ensures { IfOk result (λ tried. IsTried p.now extra tried) }
+    ensures { IfOk result (λ tried. IsTried what p.now extra tried) }
 {
     // They tell that the problem is lawful, what the readings of the problem are, and what the lists of the graph hold.
     let _ = p.events();
@@ -120,30 +131,38 @@ fn said_of_problem(
             let execution = execution_of(alloc, e, g.nodes())?;
             Ok(Tried::Run(execution))
         }
-        GraphSolution::Contradiction(arcs) => last_cycle(alloc, p, arcs, extra),
+        GraphSolution::Contradiction(arcs) => last_cycle(alloc, p, what, arcs, extra),
     }
 }
 
-/// Solves the graph of a problem where that is widened by so many ns. The graph is that of the problem, and its arcs are
-/// brought in in this order.
+/// The graph of a problem, and the order in which its arcs are brought in.
+#[derive(Drop)]
+pub struct Ordered<'a> {
+    pub graph: &'a Graph,
+    pub order: &'a [u32],
+}
+
+/// Solves the graph of a problem where that is widened by so much. The graph is that of the problem, and its arcs are
+/// brought in in its order.
 pub fn try_widening<L: Ledger>(
     alloc: Global,
     p: &Problem,
-    g: &Graph,
-    order: &[u32],
+    what: What,
+    from: &Ordered<'_>,
     extra: u64,
     steps: &mut Steps<L>,
 ) -> Result<Tried, AllocError>
     requires extra { extra < 2 ^ 62 }
-    requires graph { HoldsShortList p.now g.now }
-    requires order { AreAllArcs g.now order.now }
-    ensures { IfOk result (λ tried. IsTried p.now extra tried) }
+    requires graph { HoldsShortList p.now from.now.graph.now }
+    requires order { AreAllArcs from.now.graph.now from.now.order.now }
+    ensures { IfOk result (λ tried. IsTried what p.now extra tried) }
 {
     // They tell that the problem is lawful, what the readings of the problem are, and what the lists of the graph hold.
     let _ = p.events();
     let _ = p.readings();
+    let g = from.graph;
     g.exact();
-    let h = widened_graph(alloc, g, extra)?;
-    let found = solve_graph(alloc, &h, order, steps)?;
-    said_of_problem(alloc, p, &h, &found, extra)
+    let h = widened_graph(alloc, p, what, nano(extra), g)?;
+    let found = solve_graph(alloc, &h, from.order, steps)?;
+    said_of_problem(alloc, p, what, &h, &found, extra)
 }

@@ -7,11 +7,12 @@ ghost use Rattle.widen.specs.Found.{FindsWidening};
 ghost use Rattle.widen.specs.Search.{IsKnown};
 ghost use Rattle.widen.specs.Widening.{IsWideningOf, ShowsWidening};
 
-use crate::attempt::{try_nothing, try_widening};
+use crate::attempt::{Ordered, try_nothing, try_widening};
 use crate::choice::Choice;
 use crate::known::{Known, concluded, narrow, nothing_known};
 use crate::widening::Widening;
 use atto::Steps;
+use cert_check::What;
 use problem::Problem;
 use problem_solver::solve;
 use solver::Solver;
@@ -33,13 +34,13 @@ fn all_arcs(alloc: Global, g: &Graph) -> Result<Vec<u32>, AllocError>
 }
 
 // What the solver of the problem says of widenings.
-fn first_known(alloc: Global, p: &Problem, s: &Solver) -> Result<Known, AllocError>
+fn first_known(alloc: Global, p: &Problem, what: What, s: &Solver) -> Result<Known, AllocError>
     requires current { IsCurrent s.now }
     requires graph { HoldsShortList p.now s.now.graph }
-    ensures { IfOk result (λ known. IsKnown p.now known) }
+    ensures { IfOk result (λ known. IsKnown what p.now known) }
 {
     let mut known = nothing_known();
-    let tried = try_nothing(alloc, p, s)?;
+    let tried = try_nothing(alloc, p, what, s)?;
     narrow(&mut known, 0, tried);
     Ok(known)
 }
@@ -52,26 +53,32 @@ pub struct Found {
     pub rounds: u64,
 }
 
-// The search between what does not heal and what does, by what the solver of the problem holds.
-fn search<L: Ledger>(
+/// What `widening_in_rounds` finds, by what the solver of the problem holds: the search between what does not heal and what
+/// does.
+pub fn search<L: Ledger>(
     alloc: Global,
     p: &Problem,
+    what: What,
     s: &Solver,
     steps: &mut Steps<L>,
 ) -> Result<Found, AllocError>
     requires current { IsCurrent s.now }
     requires graph { HoldsShortList p.now s.now.graph }
-    ensures finds { IfOk result (λ found. FindsWidening p.now found.widening) }
+    ensures finds { IfOk result (λ found. FindsWidening what p.now found.widening) }
     ensures some { IfOk result (λ found. 0 < found.rounds) }
 {
-    let mut known = first_known(alloc, p, s)?;
+    let mut known = first_known(alloc, p, what, s)?;
     let g = s.graph();
     let order = all_arcs(alloc, g)?;
+    let from = Ordered {
+        graph: g,
+        order: &order,
+    };
     let mut choice = Choice::new();
     let mut rounds = 1;
     'widenings: while known.low < known.high {
         let extra = choice.next(known.low, known.high, known.run.is_some());
-        let tried = try_widening(alloc, p, g, &order, extra, steps)?;
+        let tried = try_widening(alloc, p, what, &from, extra, steps)?;
         narrow(&mut known, extra, tried);
         rounds += 1;
     }
@@ -85,32 +92,34 @@ fn search<L: Ledger>(
 pub fn widening_in_rounds<L: Ledger>(
     alloc: Global,
     p: &Problem,
+    what: What,
     steps: &mut Steps<L>,
 ) -> Result<Found, AllocError>
     ensures widening { IfOk result (λ found. IsWideningOf p.now found.widening) }
-    ensures shows { IfOk result (λ found. ShowsWidening p.now found.widening) }
-    ensures finds { IfOk result (λ found. FindsWidening p.now found.widening) }
+    ensures shows { IfOk result (λ found. ShowsWidening what p.now found.widening) }
+    ensures finds { IfOk result (λ found. FindsWidening what p.now found.widening) }
     ensures some { IfOk result (λ found. 0 < found.rounds) }
 {
     let s = solve(alloc, p, 0, steps)?;
-    let found = search(alloc, p, &s, steps)?;
+    let found = search(alloc, p, what, &s, steps)?;
     Ok(found)
 }
 
-/// By how many ns each greatest delay of a message must be greater at least, so that an execution exists, with what shows it
-/// from both sides: the earliest execution of the problem that is widened by so much and, where that is above 0, a contradiction
-/// of the one that is widened by 1 ns less, with the weights that its bounds have there. `Never` comes exactly where no number
-/// below 2^62 will do, with a contradiction of the problem that is widened by 2^62 - 1 ns. It answers an error only where memory
-/// runs out. No number of steps is promised.
+/// By how much what is named must be widened at least, in ns or for rates in parts per billion, so that an execution exists,
+/// with what shows it from both sides: the earliest execution of the problem that is widened by so much and, where that is
+/// above 0, a contradiction of the one that is widened by 1 less, with the weights that its bounds have there. `Never` comes
+/// exactly where no number below 2^62 will do, with a contradiction of the problem that is widened by 2^62 - 1. It answers an
+/// error only where memory runs out. No number of steps is promised.
 pub fn least_widening<L: Ledger>(
     alloc: Global,
     p: &Problem,
+    what: What,
     steps: &mut Steps<L>,
 ) -> Result<Widening, AllocError>
     ensures widening { IfOk result (λ w. IsWideningOf p.now w) }
-    ensures shows { IfOk result (λ w. ShowsWidening p.now w) }
-    ensures finds { IfOk result (λ w. FindsWidening p.now w) }
+    ensures shows { IfOk result (λ w. ShowsWidening what p.now w) }
+    ensures finds { IfOk result (λ w. FindsWidening what p.now w) }
 {
-    let found = widening_in_rounds(alloc, p, steps)?;
+    let found = widening_in_rounds(alloc, p, what, steps)?;
     Ok(found.widening)
 }

@@ -10,6 +10,7 @@ ghost use Rattle.cert.specs.declared.error.CertError.{CertError};
 ghost use Rattle.cert.specs.declared.error.CertError.TheVariants as errors;
 ghost use Rattle.cert_check.specs.declared.answer.Answer as judged;
 ghost use Rattle.cert_check.specs.declared.answer.Answer.TheVariants as answers;
+ghost use Rattle.cert_check.specs.declared.what.What.{What};
 ghost use Rattle.cert_check.specs.Widened.{widened};
 ghost use Rattle.widen.specs.declared.widening.Widening.{Widening};
 ghost use Rattle.widen.specs.declared.widening.Widening.TheVariants.{Least, Never};
@@ -21,17 +22,16 @@ ghost use Rattle.widen.specs.ReadsWidening.{IsWideningTextOf, ReadsWideningOver}
 ghost use Rattle.widen.specs.JudgedText.{JudgesText};
 ghost use Rattle.widen.specs.Found.{FindsWidening};
 
-/// A law, which does nothing when it runs. What is an execution where greatest delays are some ns greater is one where they are
-/// still greater. So a widening that shows what it should is the least one, or there is none; a problem has one least
+/// A law, which does nothing when it runs. What is an execution of a problem that is widened is one where it is widened by more. So a widening that shows what it should is the least one, or there is none; a problem has one least
 /// widening or none, and not both. A widening has one answer.
 pub fn least()
-    ensures rises { (p : ProblemLists) (e f : ℕ) (x : Times) → e ≤ f → IsExecution (widened p e) x → IsExecution (widened p f) x }
-    ensures shown { (p : ProblemLists) (extra : ℕ) (execution : List ℤ) (cycle : Option (List Step)) → extra < 2 ^ 62
-        → IsWideningOf p (Least extra execution cycle) → ShowsWidening p (Least extra execution cycle) → IsLeastWidening p extra }
-    ensures never { (p : ProblemLists) (cycle : List Step) → ShowsWidening p (Never cycle) → HasNoWidening p }
-    ensures one { (p : ProblemLists) (e f : ℕ) → IsLeastWidening p e → IsLeastWidening p f → e ≡ f }
-    ensures not_both { (p : ProblemLists) (e : ℕ) → IsLeastWidening p e → HasNoWidening p → ⊥ }
-    ensures answer { (p : ProblemLists) (w : Widening) (a b : judged.Answer) → IsWellFormed p → IsWideningOf p w → IsJudged p w a → IsJudged p w b → a ≡ b }
+    ensures rises { (what : What) (p : ProblemLists) (e f : ℕ) (x : Times) → e ≤ f → IsExecution (widened what p e) x → IsExecution (widened what p f) x }
+    ensures shown { (what : What) (p : ProblemLists) (extra : ℕ) (execution : List ℤ) (cycle : Option (List Step)) → extra < 2 ^ 62
+        → IsWideningOf p (Least extra execution cycle) → ShowsWidening what p (Least extra execution cycle) → IsLeastWidening what p extra }
+    ensures never { (what : What) (p : ProblemLists) (cycle : List Step) → ShowsWidening what p (Never cycle) → HasNoWidening what p }
+    ensures one { (what : What) (p : ProblemLists) (e f : ℕ) → IsLeastWidening what p e → IsLeastWidening what p f → e ≡ f }
+    ensures not_both { (what : What) (p : ProblemLists) (e : ℕ) → IsLeastWidening what p e → HasNoWidening what p → ⊥ }
+    ensures answer { (what : What) (p : ProblemLists) (w : Widening) (a b : judged.Answer) → IsWellFormed p → IsWideningOf p w → IsJudged what p w a → IsJudged what p w b → a ≡ b }
 {}
 
 /// A law, which does nothing when it runs: for a lawful problem each text has one answer, and the text of a widening whose
@@ -46,10 +46,10 @@ pub fn widening_answers_are_one()
 /// A law, which does nothing when it runs: what `least_widening` finds is the least widening, or there is none. Its text is not
 /// too long and its numbers are in range, and what reading and judging it answers is yes, or that memory ran out.
 pub fn found_widenings()
-    ensures least { (p : ProblemLists) (extra : ℕ) (execution : List ℤ) (cycle : Option (List Step)) → FindsWidening p (Least extra execution cycle) → IsLeastWidening p extra }
-    ensures never { (p : ProblemLists) (cycle : List Step) → FindsWidening p (Never cycle) → HasNoWidening p }
-    ensures fits { (p : ProblemLists) (readings : List Reading) (w : Widening) → IsProblem p → AreReadings p readings → FindsWidening p w
+    ensures least { (what : What) (p : ProblemLists) (extra : ℕ) (execution : List ℤ) (cycle : Option (List Step)) → FindsWidening what p (Least extra execution cycle) → IsLeastWidening what p extra }
+    ensures never { (what : What) (p : ProblemLists) (cycle : List Step) → FindsWidening what p (Never cycle) → HasNoWidening what p }
+    ensures fits { (what : What) (p : ProblemLists) (readings : List Reading) (w : Widening) → IsProblem p → AreReadings p readings → FindsWidening what p w
         → IsWideningTextOf p readings w (widening_text p (nodes_of p readings) w) }
-    ensures accepted { (p : ProblemLists) (readings : List Reading) (w : Widening) (result : Result judged.Answer CertError) → IsProblem p → AreReadings p readings → FindsWidening p w
-        → JudgesText p (widening_text p (nodes_of p readings) w) result → (result ≡ Ok answers.Yes) ⊎ (result ≡ Err errors.Memory) }
+    ensures accepted { (what : What) (p : ProblemLists) (readings : List Reading) (w : Widening) (result : Result judged.Answer CertError) → IsProblem p → AreReadings p readings → FindsWidening what p w
+        → JudgesText what p (widening_text p (nodes_of p readings) w) result → (result ≡ Ok answers.Yes) ⊎ (result ≡ Err errors.Memory) }
 {}

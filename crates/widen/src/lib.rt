@@ -1,8 +1,8 @@
-//! The least widening that heals a contradiction: by how many nanoseconds each greatest delay of a message must be greater at
-//! least, so that an execution exists.
+//! The least widening that heals a contradiction: by how much each greatest delay of a message must be greater at least, or
+//! each least delay less, stamps or rates off by more, of all or of one clock or link, so that an execution exists.
 //!
 //! A `Widening` says so with what shows it from both sides: an execution of the problem that is widened by that much, and a
-//! contradiction of the one that is widened by 1 ns less; or a contradiction of the one that is widened by as much as can be.
+//! contradiction of the one that is widened by 1 less; or a contradiction of the one that is widened by as much as can be.
 //! `judge` checks one and trusts no solver; `read_widening` and `write_widening` have its text.
 #![tactic(auto)]
 
@@ -12,15 +12,15 @@ mod cycles;
 mod found;
 mod known;
 mod laws;
-mod raised;
 mod read;
 mod text;
 mod tried;
 mod verdicts;
+mod weighed;
 mod widening;
 mod write;
 
-pub use found::{Found, least_widening, widening_in_rounds};
+pub use found::{Found, least_widening, search, widening_in_rounds};
 pub use laws::{found_widenings, least, widening_answers_are_one};
 pub use read::read_widening;
 pub use text::judge_text;

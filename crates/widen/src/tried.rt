@@ -6,6 +6,6 @@ use cert::{Chain, Execution};
 pub enum Tried {
     /// The earliest execution of the problem that is so widened.
     Run(Execution),
-    /// A contradiction that is there up to this widening, in ns, with the weights that it has there.
+    /// A contradiction that is there up to this widening, with the weights that it has there.
     Cycle { last: u64, cycle: Chain },
 }

@@ -13,7 +13,7 @@ ghost use Rattle.widen.specs.Widening.{HasCycle, IsWideningOf, ShowsWidening, Is
 use crate::widening::Widening;
 use atto::Nano;
 use cert::{Chain, Execution};
-use cert_check::{Answer, Part, Reason, Verdict, check_cycle, obeys_widened};
+use cert_check::{Answer, Part, Reason, Verdict, What, check_cycle, obeys_widened};
 use problem::Problem;
 
 // The greatest widening.
@@ -26,7 +26,7 @@ fn most_extra() -> Nano
     }
 }
 
-// One ns less; of nothing, nothing.
+// One less; of nothing, nothing.
 fn less(extra: Nano) -> Nano
     ensures { result ≡ extra - 1 }
 {
@@ -37,14 +37,14 @@ fn less(extra: Nano) -> Nano
 }
 
 // The answer of the execution, by the bounds of the widened problem.
-fn judge_run(p: &Problem, extra: Nano, execution: &Execution) -> Answer
+fn judge_run(p: &Problem, what: What, extra: Nano, execution: &Execution) -> Answer
     requires { HasOneEach p.now execution.now }
-    ensures answer { IsAnswer (widened p.now extra) (certs.Run execution.now) result }
+    ensures answer { IsAnswer (widened what p.now extra) (certs.Run execution.now) result }
     ensures small { IsSmallAnswer result }
 {
     // It tells that the problem is lawful.
     let _ = p.events();
-    match obeys_widened(p, extra, execution) {
+    match obeys_widened(p, what, extra, execution) {
         Verdict::Obeys => Answer::Yes,
         Verdict::Broken {
             bound,
@@ -61,40 +61,46 @@ fn judge_run(p: &Problem, extra: Nano, execution: &Execution) -> Answer
     }
 }
 
-// The answer of the cycle, where there is one, by the weights of the problem that is widened by 1 ns less.
-fn judge_below(p: &Problem, extra: Nano, cycle: &Option<Chain>) -> Answer
+// The answer of the cycle, where there is one, by the weights of the problem that is widened by 1 less.
+fn judge_below(p: &Problem, what: What, extra: Nano, cycle: &Option<Chain>) -> Answer
     requires { HasCycle p.now extra cycle.now }
-    ensures answer { IsAnswerBelow p.now extra cycle.now result }
+    ensures answer { IsAnswerBelow what p.now extra cycle.now result }
     ensures small { IsSmallAnswer result }
 {
     match cycle {
-        Some(cycle) => check_cycle(p, less(extra), cycle),
+        Some(cycle) => check_cycle(p, what, less(extra), cycle),
         None => Answer::Yes,
     }
 }
 
 // The answers of both.
-fn judge_least(p: &Problem, extra: Nano, execution: &Execution, cycle: &Option<Chain>) -> Answer
+fn judge_least(
+    p: &Problem,
+    what: What,
+    extra: Nano,
+    execution: &Execution,
+    cycle: &Option<Chain>,
+) -> Answer
     requires execution { HasOneEach p.now execution.now }
     requires cycle { HasCycle p.now extra cycle.now }
-    ensures judged { IsJudged p.now (Least extra execution.now cycle.now) result }
+    ensures judged { IsJudged what p.now (Least extra execution.now cycle.now) result }
     ensures small { IsSmallAnswer result }
 {
-    match judge_run(p, extra, execution) {
-        Answer::Yes => judge_below(p, extra, cycle),
+    match judge_run(p, what, extra, execution) {
+        Answer::Yes => judge_below(p, what, extra, cycle),
         broken => broken,
     }
 }
 
-/// Whether a widening of `p` shows what it should, or the first reason why it does not: the first bound that its execution
-/// breaks, as part `Run`, where each greatest delay of a message is as much greater as it says; then, as part `Cycle`, what
-/// is wrong with its cycle, by the weights that bounds have where each greatest delay is 1 ns less than that, or by those
-/// of the greatest widening. What is written as weights is compared and not used. No solver is asked. Sums that it tells are
+/// Whether a widening of what is named shows what it should of `p`, or the first reason why it does not: the first bound that
+/// its execution breaks, as part `Run`, where the problem is widened by as much as it says; then, as part `Cycle`, what is
+/// wrong with its cycle, by the weights that bounds have where the problem is widened by 1 less, or by those of the greatest
+/// widening. What is written as weights is compared and not used. No solver is asked. Sums that it tells are
 /// below 2^116 in absolute value, weights below 2^93, differences at most 2^121. It takes no memory.
-pub fn judge(p: &Problem, w: &Widening) -> Answer
+pub fn judge(p: &Problem, what: What, w: &Widening) -> Answer
     requires { IsWideningOf p.now w.now }
-    ensures judged { IsJudged p.now w.now result }
-    ensures exact { ShowsWidening p.now w.now ↔ (result ≡ answers.Yes) }
+    ensures judged { IsJudged what p.now w.now result }
+    ensures exact { ShowsWidening what p.now w.now ↔ (result ≡ answers.Yes) }
     ensures small { IsSmallAnswer result }
 {
     // It tells that the problem is lawful.
@@ -104,7 +110,7 @@ pub fn judge(p: &Problem, w: &Widening) -> Answer
             extra,
             execution,
             cycle,
-        } => judge_least(p, *extra, execution, cycle),
-        Widening::Never(cycle) => check_cycle(p, most_extra(), cycle),
+        } => judge_least(p, what, *extra, execution, cycle),
+        Widening::Never(cycle) => check_cycle(p, what, most_extra(), cycle),
     }
 }

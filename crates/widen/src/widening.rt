@@ -2,18 +2,18 @@
 use atto::Nano;
 use cert::{Chain, Execution};
 
-/// By how much each greatest delay of a message must be greater at least, so that an execution exists.
+/// By how much a problem must be widened at least, so that an execution exists. What of it is widened stands beside.
 #[derive(Drop)]
 pub enum Widening {
-    /// By `extra` ns: an execution of the problem that is widened by it, and, where it is above 0, a cycle of bounds, with the
-    /// weights that they have where the problem is widened by 1 ns less, whose sum is negative. There is no cycle exactly
-    /// where `extra` is 0.
+    /// By `extra`, in ns or for rates in parts per billion: an execution of the problem that is widened by it, and, where it is
+    /// above 0, a cycle of bounds, with the weights that they have where the problem is widened by 1 less, whose sum is
+    /// negative. There is no cycle exactly where `extra` is 0.
     Least {
         extra: Nano,
         execution: Execution,
         cycle: Option<Chain>,
     },
-    /// By no number of ns below 2^62: a cycle of bounds, with the weights that they have where the problem is widened by
-    /// 2^62 - 1 ns, whose sum is negative.
+    /// By no number below 2^62: a cycle of bounds, with the weights that they have where the problem is widened by 2^62 - 1,
+    /// whose sum is negative.
     Never(Chain),
 }

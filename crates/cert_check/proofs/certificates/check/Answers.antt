@@ -4,6 +4,8 @@ use Rattle.cert.specs.declared.certificate.Cert.{Cert}
 use Rattle.cert.specs.declared.certificate.Cert.TheVariants as certs
 use Rattle.cert_check.specs.declared.answer.Part.TheVariants.{Run}
 use Rattle.cert_check.specs.Reasons.{IsAnswer}
+use Rattle.cert_check.specs.declared.what.Links.TheVariants as links
+use Rattle.cert_check.specs.declared.what.What.TheVariants.{Delays}
 use Rattle.cert_check.specs.Widened.{widened}
 use Rattle.cert_check.proofs.Answering.{yes_of, run_answer}
 use Rattle.cert_check.proofs.Widening.{not_widened}
@@ -12,7 +14,7 @@ use Rattle.cert_check.proofs.certificates.check.Goals as goal
 pub returns-in-Cycle-clause-answer : goal.returns-in-Cycle-clause-answer
 returns-in-Cycle-clause-answer c =
     let p = c.args.p.now in
-    let same : widened p c.no_extra.result ≡ p = ap (widened p) c.no_extra.ensures ∙ not_widened p in
+    let same : widened (Delays links.All) p c.no_extra.result ≡ p = ap (widened (Delays links.All) p) c.no_extra.ensures ∙ not_widened p in
     let answered = subst (λ (q : ProblemLists). IsAnswer q (certs.Cycle c.in-Cycle.chain) c.check_cycle.result) same c.check_cycle.ensures.answer in
     subst (λ (k : Cert). IsAnswer p k c.check_cycle.result) (sym c.in-Cycle.is) answered
 

@@ -10,4 +10,4 @@ use Rattle.cert_check.proofs.verdict.judge_messages.Given as goal
 
 -- a verdict over the messages behind this place is the verdict over all
 abbrev pub invariant-loop-message : goal.invariant-loop-message
-invariant-loop-message l = (x : Times) (readings : List Reading) → AreTimes l.p x readings l.e → (v : Verdict) → Judges (widened l.p l.extra) x (flat_map message_bounds (drop l.message-index l.p.messages)) v → Judges (widened l.p l.extra) x (flat_map message_bounds l.p.messages) v
+invariant-loop-message l = (x : Times) (readings : List Reading) → AreTimes l.p x readings l.e → (v : Verdict) → Judges (widened l.what l.p l.extra) x (flat_map message_bounds (drop l.message-index l.p.messages)) v → Judges (widened l.what l.p l.extra) x (flat_map message_bounds l.p.messages) v

@@ -21,18 +21,18 @@ reading_time-to-requires-clause-within c = λ readings are.
     let same = ap length (readings_one c.args.p.now c.readings-readings.result.now readings c.readings-readings.ensures are) in
     omega (arith, same, c.loop-place-test.true, c.saturating_sub-last.ensures)
 
-pub judge_neighbours-requires-clause-clock : goal.judge_neighbours-requires-clause-clock
-judge_neighbours-requires-clause-clock c =
+pub clock_in-clock-requires : goal.clock_in-clock-requires
+clock_in-clock-requires c =
     let r = c.index-readings-place.result in
     let there = reading_there c.args.p.now c.readings-readings.result.now c.loop-place.place r c.readings-readings.ensures (omega (arith, c.loop-place-test.true, c.saturating_sub-last.ensures)) c.index-readings-place.is in
-    let inside = clock_there c.args.p.now r.0 r.1 c.clocks-clocks.ensures.lawful.formed there in
-    let same = ap length c.clocks-clocks.ensures.value in
-    omega (arith, inside, same)
+    clock_there c.args.p.now r.0 r.1 c.clocks.ensures.lawful.formed there
 
 pub returns-in_default-clause-verdict : goal.returns-in_default-clause-verdict
-returns-in_default-clause-verdict c = λ extra x readings times.
+returns-in_default-clause-verdict c = λ x readings times.
     let p = c.args.p.now in
-    let q = widened p extra in
+    let w = c.args.what in
+    let extra = c.args.extra in
+    let q = widened w p extra in
     let rs = c.readings-readings.result.now in
     let k = c.loop-place.place in
     let a = c.index-readings-place.result in
@@ -43,14 +43,16 @@ returns-in_default-clause-verdict c = λ extra x readings times.
     let at' : slice_get {X = Reading} rs (k + 1) ≡ Some b = slice_get_read rs (length rs) (k + 1) b refl (omega (arith, c.loop-place-test.true, c.saturating_sub-last.ensures)) c.index-readings-place-in-loop-place.is in
     let there = reading_there p rs k a c.readings-readings.ensures (omega (arith, c.loop-place-test.true, c.saturating_sub-last.ensures)) c.index-readings-place.is in
     let there' = reading_there p rs (k + 1) b c.readings-readings.ensures (omega (arith, c.loop-place-test.true, c.saturating_sub-last.ensures)) c.index-readings-place-in-loop-place.is in
-    let judged = c.judge_neighbours.ensures.verdict q x (formed p extra c.clocks-clocks.ensures.lawful.formed) c.clocks-clocks.ensures.value there there' (c.reading_time-from.ensures x rs a times' at) (c.reading_time-to.ensures x rs b times' at') in
-    let all : Judges q x (span_bounds rs) c.judge_neighbours.result = out q x (span_bounds rs) (span_bounds (drop k rs)) (c.loop-place.invariant extra x times') (neighbour_bounds a b) (span_bounds (drop (k + 1) rs)) (spans_more rs k a b at at') c.judge_neighbours.result c.in_default.not-Obeys judged in
+    let judged = c.judge_neighbours.ensures.verdict q x (formed w p extra c.clocks.ensures.lawful.formed) c.clock_in-clock.ensures there there' (c.reading_time-from.ensures x rs a times' at) (c.reading_time-to.ensures x rs b times' at') in
+    let all : Judges q x (span_bounds rs) c.judge_neighbours.result = out q x (span_bounds rs) (span_bounds (drop k rs)) (c.loop-place.invariant x times') (neighbour_bounds a b) (span_bounds (drop (k + 1) rs)) (spans_more rs k a b at at') c.judge_neighbours.result c.in_default.not-Obeys judged in
     subst (λ (l : List Reading). Judges q x (span_bounds l) c.judge_neighbours.result) same all
 
 pub loop-place-preserved : goal.loop-place-preserved
-loop-place-preserved c = λ extra x times'.
+loop-place-preserved c = λ x times'.
     let p = c.args.p.now in
-    let q = widened p extra in
+    let w = c.args.what in
+    let extra = c.args.extra in
+    let q = widened w p extra in
     let rs = c.readings-readings.result.now in
     let k = c.loop-place.place in
     let a = c.index-readings-place.result in
@@ -59,16 +61,18 @@ loop-place-preserved c = λ extra x times'.
     let at' : slice_get {X = Reading} rs (k + 1) ≡ Some b = slice_get_read rs (length rs) (k + 1) b refl (omega (arith, c.loop-place-test.true, c.saturating_sub-last.ensures)) c.index-readings-place-in-loop-place.is in
     let there = reading_there p rs k a c.readings-readings.ensures (omega (arith, c.loop-place-test.true, c.saturating_sub-last.ensures)) c.index-readings-place.is in
     let there' = reading_there p rs (k + 1) b c.readings-readings.ensures (omega (arith, c.loop-place-test.true, c.saturating_sub-last.ensures)) c.index-readings-place-in-loop-place.is in
-    let judged = c.judge_neighbours.ensures.verdict q x (formed p extra c.clocks-clocks.ensures.lawful.formed) c.clocks-clocks.ensures.value there there' (c.reading_time-from.ensures x rs a times' at) (c.reading_time-to.ensures x rs b times' at') in
-    on q x (span_bounds rs) (span_bounds (drop k rs)) (c.loop-place.invariant extra x times') (neighbour_bounds a b) (span_bounds (drop (k + 1) rs)) (spans_more rs k a b at at') (rw c.in-Obeys.is at judged)
+    let judged = c.judge_neighbours.ensures.verdict q x (formed w p extra c.clocks.ensures.lawful.formed) c.clock_in-clock.ensures there there' (c.reading_time-from.ensures x rs a times' at) (c.reading_time-to.ensures x rs b times' at') in
+    on q x (span_bounds rs) (span_bounds (drop k rs)) (c.loop-place.invariant x times') (neighbour_bounds a b) (span_bounds (drop (k + 1) rs)) (spans_more rs k a b at at') (rw c.in-Obeys.is at judged)
 
 pub returns-clause-verdict : goal.returns-clause-verdict
-returns-clause-verdict c = λ extra x readings times.
+returns-clause-verdict c = λ x readings times.
     let p = c.args.p.now in
-    let q = widened p extra in
+    let w = c.args.what in
+    let extra = c.args.extra in
+    let q = widened w p extra in
     let rs = c.readings-readings.result.now in
     let k = c.loop-place.place in
     let same : rs ≡ readings = readings_one p rs readings c.readings-readings.ensures times.are_readings in
     let times' : AreTimes p x rs c.args.e.now = subst (λ (l : List Reading). AreTimes p x l c.args.e.now) (sym same) times in
     subst (λ (l : List Reading). Judges q x (span_bounds l) verdicts.Obeys) same
-    (done q x (span_bounds rs) (span_bounds (drop k rs)) (c.loop-place.invariant extra x times') (spans_all rs k (omega (arith, c.loop-place-test.false, c.saturating_sub-last.ensures))))
+    (done q x (span_bounds rs) (span_bounds (drop k rs)) (c.loop-place.invariant x times') (spans_all rs k (omega (arith, c.loop-place-test.false, c.saturating_sub-last.ensures))))

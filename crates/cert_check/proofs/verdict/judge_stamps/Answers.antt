@@ -5,7 +5,7 @@ use Rattle.problem_model.specs.declared.items.Event.{Event}
 use Rattle.problem_model.specs.declared.items.Bound.TheVariants.{Late, Early}
 use Rattle.problem_model.specs.Nodes.{Reading}
 use Rattle.problem_model.specs.ShortList.{event_bounds}
-use Rattle.problem_model.proofs.Walking.{stamps_more, stamps_all, clock_at}
+use Rattle.problem_model.proofs.Walking.{stamps_more, stamps_all, clock_there}
 use Rattle.cert_check.specs.Widened.{widened}
 use Rattle.cert_check.proofs.Loops.{on, out, done}
 use Rattle.cert_check.proofs.Widening.{formed}
@@ -23,37 +23,39 @@ pub reading_time-reading-requires-clause-within : goal.reading_time-reading-requ
 reading_time-reading-requires-clause-within c = λ readings are. slice_get_within {A = Reading} readings c.place_of.result (c.event-item.result.clock, c.event-item.result.stamp) (c.place_of.ensures readings are)
 
 pub returns-in_default-clause-verdict : goal.returns-in_default-clause-verdict
-returns-in_default-clause-verdict c = λ extra x readings times.
+returns-in_default-clause-verdict c = λ x readings times.
     let p = c.args.p.now in
-    let q = widened p extra in
+    let w = c.args.what in
+    let extra = c.args.extra in
+    let q = widened w p extra in
     let k = c.loop-place.place in
     let e = c.event-item.result in
     let is : c.events-event-items.result.now ≡ p.events = c.events-event-items.ensures.value in
     let there : slice_get p.events k ≡ Some e = subst (λ (es : List Event). slice_get es k ≡ Some e) is (slice_get_read c.events-event-items.result.now (length c.events-event-items.result.now) k e refl c.loop-place-test.true c.event-item.is) in
-    let held : Contains p.events e = subst (λ (es : List Event). Contains es e) is (k, c.loop-place-test.true, sym c.event-item.is) in
-    let clock = clock_at p c.clocks-clocks.result.now e c.index-clocks-event.result c.clocks-clocks.ensures.lawful.formed c.clocks-clocks.ensures.value held c.index-clocks-event.is in
-    out q x (event_bounds 0 p.events) (event_bounds k (drop k p.events)) (c.loop-place.invariant extra x readings times)
+    out q x (event_bounds 0 p.events) (event_bounds k (drop k p.events)) (c.loop-place.invariant x readings times)
     (Late k ∷ Early k ∷ []) (event_bounds (k + 1) (drop (k + 1) p.events)) (stamps_more p.events k e there) c.judge_stamp.result c.in_default.not-Obeys
-    (c.judge_stamp.ensures.verdict q x (formed p extra c.clocks-clocks.ensures.lawful.formed) there clock (c.reading_time-reading.ensures x readings (e.clock, e.stamp) times (c.place_of.ensures readings times.are_readings)) (c.event_time-time.ensures x readings times))
+    (c.judge_stamp.ensures.verdict q x (formed w p extra c.clocks.ensures.lawful.formed) there c.clock_in-clock.ensures (c.reading_time-reading.ensures x readings (e.clock, e.stamp) times (c.place_of.ensures readings times.are_readings)) (c.event_time-time.ensures x readings times))
 
 pub loop-place-preserved : goal.loop-place-preserved
-loop-place-preserved c = λ extra x readings times.
+loop-place-preserved c = λ x readings times.
     let p = c.args.p.now in
-    let q = widened p extra in
+    let w = c.args.what in
+    let extra = c.args.extra in
+    let q = widened w p extra in
     let k = c.loop-place.place in
     let e = c.event-item.result in
     let is : c.events-event-items.result.now ≡ p.events = c.events-event-items.ensures.value in
     let there : slice_get p.events k ≡ Some e = subst (λ (es : List Event). slice_get es k ≡ Some e) is (slice_get_read c.events-event-items.result.now (length c.events-event-items.result.now) k e refl c.loop-place-test.true c.event-item.is) in
-    let held : Contains p.events e = subst (λ (es : List Event). Contains es e) is (k, c.loop-place-test.true, sym c.event-item.is) in
-    let clock = clock_at p c.clocks-clocks.result.now e c.index-clocks-event.result c.clocks-clocks.ensures.lawful.formed c.clocks-clocks.ensures.value held c.index-clocks-event.is in
-    on q x (event_bounds 0 p.events) (event_bounds k (drop k p.events)) (c.loop-place.invariant extra x readings times)
+    on q x (event_bounds 0 p.events) (event_bounds k (drop k p.events)) (c.loop-place.invariant x readings times)
     (Late k ∷ Early k ∷ []) (event_bounds (k + 1) (drop (k + 1) p.events)) (stamps_more p.events k e there)
-    (rw c.in-Obeys.is at (c.judge_stamp.ensures.verdict q x (formed p extra c.clocks-clocks.ensures.lawful.formed) there clock (c.reading_time-reading.ensures x readings (e.clock, e.stamp) times (c.place_of.ensures readings times.are_readings)) (c.event_time-time.ensures x readings times)))
+    (rw c.in-Obeys.is at (c.judge_stamp.ensures.verdict q x (formed w p extra c.clocks.ensures.lawful.formed) there c.clock_in-clock.ensures (c.reading_time-reading.ensures x readings (e.clock, e.stamp) times (c.place_of.ensures readings times.are_readings)) (c.event_time-time.ensures x readings times)))
 
 pub returns-clause-verdict : goal.returns-clause-verdict
-returns-clause-verdict c = λ extra x readings times.
+returns-clause-verdict c = λ x readings times.
     let p = c.args.p.now in
-    let q = widened p extra in
+    let w = c.args.what in
+    let extra = c.args.extra in
+    let q = widened w p extra in
     let k = c.loop-place.place in
-    done q x (event_bounds 0 p.events) (event_bounds k (drop k p.events)) (c.loop-place.invariant extra x readings times)
+    done q x (event_bounds 0 p.events) (event_bounds k (drop k p.events)) (c.loop-place.invariant x readings times)
     (stamps_all p.events k (let len = ap length c.events-event-items.ensures.value in omega (arith, len, c.loop-place-test.false)))

@@ -1,4 +1,4 @@
-use Rattle.std.proofs.Common.{ℕ, List, drop}
+use Rattle.std.proofs.Common.{List, drop}
 use Rattle.problem_model.specs.Nodes.{Reading}
 use Rattle.problem_model.specs.Bounds.{Times}
 use Rattle.problem_model.specs.ShortList.{event_bounds}
@@ -9,4 +9,4 @@ use Rattle.cert_check.proofs.verdict.judge_stamps.Given as goal
 
 -- a verdict over the stamps behind this place is the verdict over all
 abbrev pub invariant-loop-place : goal.invariant-loop-place
-invariant-loop-place l = (extra : ℕ) (x : Times) (readings : List Reading) → AreTimes l.p x readings l.e → (v : Verdict) → Judges (widened l.p extra) x (event_bounds l.place (drop l.place l.p.events)) v → Judges (widened l.p extra) x (event_bounds 0 l.p.events) v
+invariant-loop-place l = (x : Times) (readings : List Reading) → AreTimes l.p x readings l.e → (v : Verdict) → Judges (widened l.what l.p l.extra) x (event_bounds l.place (drop l.place l.p.events)) v → Judges (widened l.what l.p l.extra) x (event_bounds 0 l.p.events) v

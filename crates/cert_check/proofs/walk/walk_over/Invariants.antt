@@ -7,4 +7,4 @@ use Rattle.cert_check.proofs.walk.walk_over.Given as goal
 
 -- the steps before this place are walked over, and summed up
 abbrev pub invariant-loop-k : goal.invariant-loop-k
-invariant-loop-k l = Goes (widened l.p l.extra) l.part l.fn.start (weighed_bounds (take l.k l.steps)) l.held.node × (l.held.sum ≡ weight_of (weighed_bounds (take l.k l.steps))) × (unsigned_abs l.held.sum ≤ l.k * (2 ^ 93 - 1)) × (l.k ≤ l.count)
+invariant-loop-k l = Goes (widened l.what l.p l.extra) l.part l.fn.start (weighed_bounds (take l.k l.steps)) l.held.node × (l.held.sum ≡ weight_of (weighed_bounds (take l.k l.steps))) × (unsigned_abs l.held.sum ≤ l.k * (2 ^ 93 - 1)) × (l.k ≤ l.count)

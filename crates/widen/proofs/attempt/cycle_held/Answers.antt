@@ -9,6 +9,6 @@ pub last_cycle-requires-clause-cycle : goal.last_cycle-requires-clause-cycle
 last_cycle-requires-clause-cycle c =
     let p = c.args.p.now in
     let s = c.args.s.now in
-    subst (λ (arcs : List Arc). IsCycleFor p 0 arcs) (sym c.contradiction.ensures.value)
-    (cycle_found p 0 s.graph c.events.ensures.lawful c.requires.current.set_up.graph c.readings.result.now c.readings.ensures (holds_unwidened p s.graph c.requires.graph) s.contradiction
+    subst (λ (arcs : List Arc). IsCycleFor c.args.what p 0 arcs) (sym c.contradiction.ensures.value)
+    (cycle_found c.args.what p 0 s.graph c.events.ensures.lawful c.requires.current.set_up.graph c.readings.result.now c.readings.ensures (holds_unwidened c.args.what p s.graph c.events.ensures.lawful c.requires.graph) s.contradiction
     (contradicted_now s c.requires.current c.requires.held).cycle)

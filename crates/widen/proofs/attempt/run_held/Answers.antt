@@ -28,7 +28,7 @@ pub returns : goal.returns
 returns c =
     let p = c.args.p.now in
     let s = c.args.s.now in
-    subst (λ (values : List ℤ). IsRunAt p 0 values) (sym c.in_ok-execution.ensures)
-    (subst (λ (e : Values). IsRunAt p 0 e.values) (sym c.earliest.ensures)
-    (run_found p 0 s.graph c.events.ensures.lawful c.requires.current.set_up.graph c.readings.result.now c.readings.ensures (holds_unwidened p s.graph c.requires.graph) s.earliest.values
+    subst (λ (values : List ℤ). IsRunAt c.args.what p 0 values) (sym c.in_ok-execution.ensures)
+    (subst (λ (e : Values). IsRunAt c.args.what p 0 e.values) (sym c.earliest.ensures)
+    (run_found c.args.what p 0 s.graph c.events.ensures.lawful c.requires.current.set_up.graph c.readings.result.now c.readings.ensures (holds_unwidened c.args.what p s.graph c.events.ensures.lawful c.requires.graph) s.earliest.values
     (solved_now s c.requires.current c.requires.solved).earliest))

@@ -1,7 +1,7 @@
 use Rattle.std.proofs.Common.{◌≡◌, ◌≤◌, ◌*◌, ◌^◌, drop}
 use Rattle.std.specs.Prelude.{◌+ℤ◌, unsigned_abs}
 use Rattle.problem_model.specs.Solutions.{weight_of}
-use Rattle.widen.specs.Raised.{weighed_arcs}
+use Rattle.widen.specs.Weighed.{weighed_arcs}
 use Rattle.widen.proofs.cycles.sum_of.Given as goal
 
 -- so much, and the sum of the arcs that are left

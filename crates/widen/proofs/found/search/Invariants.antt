@@ -9,7 +9,7 @@ decreases-widenings g l = l.known.high - l.known.low
 -- each round takes something of what lies between the ends
 abbrev pub invariant-widenings : goal.invariant-widenings
 invariant-widenings g l = record {
-  known : IsKnown l.p l.known;
+  known : IsKnown l.what l.p l.known;
   some : 0 < l.rounds;
   counted : l.rounds + (l.known.high - l.known.low) ≤ 2 ^ 62 + 1;
 }

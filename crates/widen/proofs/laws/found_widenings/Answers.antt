@@ -2,13 +2,13 @@ use Rattle.widen.proofs.FoundTexts.{least_found, never_found, text_of, accepted}
 use Rattle.widen.proofs.laws.found_widenings.Goals as goal
 
 pub returns-clause-least : goal.returns-clause-least
-returns-clause-least c = λ p extra execution cycle found. least_found p extra execution cycle found
+returns-clause-least c = λ what p extra execution cycle found. least_found what p extra execution cycle found
 
 pub returns-clause-never : goal.returns-clause-never
-returns-clause-never c = λ p cycle found. never_found p cycle found
+returns-clause-never c = λ what p cycle found. never_found what p cycle found
 
 pub returns-clause-fits : goal.returns-clause-fits
-returns-clause-fits c = λ p readings w lawful are found. text_of p readings lawful are w found
+returns-clause-fits c = λ what p readings w lawful are found. text_of what p readings lawful are w found
 
 pub returns-clause-accepted : goal.returns-clause-accepted
-returns-clause-accepted c = λ p readings w result lawful are found judged. accepted p readings lawful are w result found judged
+returns-clause-accepted c = λ what p readings w result lawful are found judged. accepted what p readings lawful are w result found judged

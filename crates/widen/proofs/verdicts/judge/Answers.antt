@@ -14,10 +14,10 @@ pub returns-in-Least-clause-judged : goal.returns-in-Least-clause-judged
 returns-in-Least-clause-judged c = rw c.in-Least.is c.judge_least.ensures.judged
 
 pub returns-in-Least-clause-exact : goal.returns-in-Least-clause-exact
-returns-in-Least-clause-exact c = exact c.args.p.now c.events.ensures.lawful.formed c.args.w.now c.judge_least.result c.requires (returns-in-Least-clause-judged c)
+returns-in-Least-clause-exact c = exact c.args.what c.args.p.now c.events.ensures.lawful.formed c.args.w.now c.judge_least.result c.requires (returns-in-Least-clause-judged c)
 
 pub returns-in-Never-clause-judged : goal.returns-in-Never-clause-judged
 returns-in-Never-clause-judged c = rw c.in-Never.is (rw c.most_extra.ensures at c.check_cycle.ensures.answer)
 
 pub returns-in-Never-clause-exact : goal.returns-in-Never-clause-exact
-returns-in-Never-clause-exact c = exact c.args.p.now c.events.ensures.lawful.formed c.args.w.now c.check_cycle.result c.requires (returns-in-Never-clause-judged c)
+returns-in-Never-clause-exact c = exact c.args.what c.args.p.now c.events.ensures.lawful.formed c.args.w.now c.check_cycle.result c.requires (returns-in-Never-clause-judged c)

@@ -15,18 +15,20 @@ use Rattle.widen.proofs.verdicts.judge_run.Goals as goal
 pub returns-in-Obeys-clause-answer : goal.returns-in-Obeys-clause-answer
 returns-in-Obeys-clause-answer c =
     let p = c.args.p.now in
+    let w = c.args.what in
     let e = c.args.extra in
     let values = c.args.execution.now in
     let times = listed p c.requires.0 values c.requires.1 c.requires.2 in
-    (times.0, lists_on p e times.0 values times.1, rw c.in-Obeys.is at (c.obeys_widened.ensures.verdict times.0 times.1))
+    (times.0, lists_on w p e times.0 values times.1, rw c.in-Obeys.is at (c.obeys_widened.ensures.verdict times.0 times.1))
 
 pub returns-in-Broken-clause-answer : goal.returns-in-Broken-clause-answer
 returns-in-Broken-clause-answer c =
     let p = c.args.p.now in
+    let w = c.args.what in
     let e = c.args.extra in
     let values = c.args.execution.now in
     let times = listed p c.requires.0 values c.requires.1 c.requires.2 in
     let weight_fits : SFits w128 c.in-Broken.weight = search rules in
     let difference_fits : SFits w128 c.in-Broken.difference = search rules in
-    simp to_z-of_z (run_answer (widened p e) (formed p e c.events.ensures.lawful.formed) values (Some (Broken c.in-Broken.bound c.in-Broken.weight c.in-Broken.difference))
-    (broken_first (widened p e) Run values c.in-Broken.bound c.in-Broken.weight c.in-Broken.difference (times.0, lists_on p e times.0 values times.1, rw c.in-Broken.is at (c.obeys_widened.ensures.verdict times.0 times.1))))
+    simp to_z-of_z (run_answer (widened w p e) (formed w p e c.events.ensures.lawful.formed) values (Some (Broken c.in-Broken.bound c.in-Broken.weight c.in-Broken.difference))
+    (broken_first (widened w p e) Run values c.in-Broken.bound c.in-Broken.weight c.in-Broken.difference (times.0, lists_on w p e times.0 values times.1, rw c.in-Broken.is at (c.obeys_widened.ensures.verdict times.0 times.1))))
