@@ -12,7 +12,7 @@ use Rattle.decl.specs.declared.errors.DeclError.TheVariants as faults
 use Rattle.decl.specs.declared.errors.Section.{Section}
 use Rattle.session.specs.Script.{Devices, OfScript, Replied}
 use Rattle.commands.specs.Asked.{Asked, help_text, version_text}
-use Rattle.commands.specs.Asked.Asked.{Obey, Solve, Ends, Verify, Session, Trial, Widen, Judge, Mergecap, Help, Version, Nothing}
+use Rattle.commands.specs.Asked.Asked.{Obey, Solve, Ends, Verify, Session, Trial, Widen, Judge, Blame, Mergecap, Help, Version, Nothing}
 use Rattle.commands.specs.Runs.{Answers}
 use Rattle.commands.specs.Complete.{Holds, HoldsProblem, IsExecutionText, IsCertText, IsWideningText, IsLawfulInput, IsFaultless, IsAnswered}
 use Rattle.problem_commands.specs.Intervals.{IntervalAnswered}
@@ -29,6 +29,7 @@ use Rattle.problem_commands.specs.Texts.{SpellsProblem, IsMissed, IsBadProblem, 
 use Rattle.commands.specs.Trials.{IsNumber, Tried, TriedBy}
 use Rattle.problem_commands.specs.Verify.{Verified}
 use Rattle.problem_commands.specs.Widening.{RefusesWidening, WideningFound, WideningJudged}
+use Rattle.problem_commands.specs.Blame.{Blamed}
 use Rattle.problem_commands.specs.declared.refusal.Refusal.{Refusal}
 use Rattle.problem_commands.specs.declared.status.Status.{Status}
 use Rattle.problem_commands.specs.declared.status.Status.TheVariants as statuses
@@ -194,6 +195,21 @@ module _ (law : HaveOneAnswer) (old new : FilesTold) (none : Rose old.faults new
   widen_goes problem lawful statuses.UnknownEvent text goes = absurd goes
   widen_goes problem lawful statuses.NoMerge text goes = absurd goes
 
+  blame_goes : (problem : List ℕ) → HoldsProblem old.content problem (λ p. Unit {0}) → (status : Status) (text : List ℕ) → Blamed problem old new status text → IsAnswered status
+  blame_goes problem lawful statuses.Done text goes = inl refl
+  blame_goes problem lawful statuses.No text goes = absurd goes
+  blame_goes problem lawful statuses.Usage text goes = absurd goes
+  blame_goes problem lawful statuses.BadDecl text goes = absurd goes
+  blame_goes problem (p, held, also) statuses.BadProblem text goes = absurd (not_bad law p problem text old.content held goes)
+  blame_goes problem lawful statuses.BadExec text goes = absurd goes
+  blame_goes problem lawful statuses.BadCert text goes = absurd goes
+  blame_goes problem (p, held, also) statuses.ReadFault text goes = absurd (not_missed (SpellsProblem p) problem old new held none goes.0)
+  blame_goes problem lawful statuses.WriteFault text goes = absurd goes
+  blame_goes problem lawful statuses.Memory text goes = absurd goes
+  blame_goes problem lawful statuses.ScriptLimit text goes = absurd goes
+  blame_goes problem lawful statuses.UnknownEvent text goes = absurd goes
+  blame_goes problem lawful statuses.NoMerge text goes = absurd goes
+
   judge_goes : (problem widening : List ℕ) → HoldsProblem old.content problem (λ p. Holds old.content widening (IsWideningText p)) → (status : Status) (line : List ℕ) → WideningJudged problem widening old new status line → IsAnswered status
   judge_goes problem widening lawful statuses.Done line goes = inl refl
   judge_goes problem widening lawful statuses.No line goes = inr (inl refl)
@@ -229,6 +245,9 @@ module _ (law : HaveOneAnswer) (old new : Devices) (none : IsFaultless old new) 
 
   widen_answered : (problem : List ℕ) (result : Status) → HoldsProblem old.files.content problem (λ p. Unit {0}) → Prints (WideningFound problem old.files new.files) old.out new.out result → IsAnswered result
   widen_answered problem result lawful = printed (WideningFound problem old.files new.files) old.out new.out result (widen_goes law old.files new.files none.files problem lawful) none.out
+
+  blame_answered : (problem : List ℕ) (result : Status) → HoldsProblem old.files.content problem (λ p. Unit {0}) → Prints (Blamed problem old.files new.files) old.out new.out result → IsAnswered result
+  blame_answered problem result lawful = printed (Blamed problem old.files new.files) old.out new.out result (blame_goes law old.files new.files none.files problem lawful) none.out
 
   judge_answered : (problem widening : List ℕ) (result : Status) → HoldsProblem old.files.content problem (λ p. Holds old.files.content widening (IsWideningText p))
       → Prints (WideningJudged problem widening old.files new.files) old.out new.out result → IsAnswered result
@@ -317,6 +336,7 @@ all_answered law (Session decl) old new result answers lawful none = session_ans
 all_answered law (Trial number) old new result answers lawful none = trial_answered old new none number result lawful answers
 all_answered law (Widen problem) old new result answers lawful none = widen_answered law old new none problem result lawful answers
 all_answered law (Judge problem widening) old new result answers lawful none = judge_answered law old new none problem widening result lawful answers
+all_answered law (Blame problem) old new result answers lawful none = blame_answered law old new none problem result lawful answers
 all_answered law (Mergecap decl) old new result answers lawful none =
     mergecap_answered old.files new.files old.input new.input old.out new.out none.files none.input none.out decl result lawful answers
 all_answered law Help old new result answers lawful none = help_answered old new none help_text result answers

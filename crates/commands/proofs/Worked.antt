@@ -1,7 +1,7 @@
 -- What the words of each command ask for.
 use Rattle.std.proofs.Common.{◌≡◌, ℕ, List, [], ◌∷◌, codes, refl}
 use Rattle.commands.specs.Asked.{Asked, asked_of}
-use Rattle.commands.specs.Asked.Asked.{Obey, Solve, Ends, Verify, Session, Trial, Widen, Judge, Mergecap, Help, Version, Nothing}
+use Rattle.commands.specs.Asked.Asked.{Obey, Solve, Ends, Verify, Session, Trial, Widen, Judge, Blame, Mergecap, Help, Version, Nothing}
 
 obey : (problem exec : List ℕ) → asked_of (codes "obey" ∷ problem ∷ exec ∷ []) ≡ Obey problem exec
 obey problem exec = refl
@@ -26,6 +26,9 @@ widen problem = refl
 
 judge : (problem widening : List ℕ) → asked_of (codes "judge" ∷ problem ∷ widening ∷ []) ≡ Judge problem widening
 judge problem widening = refl
+
+blame : (problem : List ℕ) → asked_of (codes "blame" ∷ problem ∷ []) ≡ Blame problem
+blame problem = refl
 
 mergecap : (decl : List ℕ) → asked_of (codes "mergecap" ∷ decl ∷ []) ≡ Mergecap decl
 mergecap decl = refl

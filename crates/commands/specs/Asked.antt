@@ -16,6 +16,7 @@ pub data Asked : Type 0 where
   Trial : List ℕ → Asked
   Widen : List ℕ → Asked
   Judge : List ℕ → List ℕ → Asked
+  Blame : List ℕ → Asked
   Mergecap : List ℕ → Asked
   Help : Asked
   Version : Asked
@@ -29,6 +30,7 @@ asked_by name (a ∷ []) =
     else if bytes_eq name (codes "session") then Session a
     else if bytes_eq name (codes "trial") then Trial a
     else if bytes_eq name (codes "widen") then Widen a
+    else if bytes_eq name (codes "blame") then Blame a
     else if bytes_eq name (codes "mergecap") then Mergecap a else Nothing
 asked_by name (a ∷ b ∷ []) =
     if bytes_eq name (codes "obey") then Obey a b
@@ -52,6 +54,7 @@ seen_request (request.Session decl) = Session decl.now
 seen_request (request.Trial number) = Trial number.now
 seen_request (request.Widen problem) = Widen problem.now
 seen_request (request.Judge problem widening) = Judge problem.now widening.now
+seen_request (request.Blame problem) = Blame problem.now
 seen_request (request.Mergecap decl) = Mergecap decl.now
 seen_request request.Help = Help
 seen_request request.Version = Version
@@ -74,7 +77,7 @@ ReadsNoScript _ = ⊤
 -- ---- what is printed without a file
 -- where nothing that there is was asked for
 abbrev pub usage_line : List ℕ
-usage_line = codes "usage: tracesync obey PROBLEM EXEC | solve PROBLEM | ends PROBLEM P Q | verify PROBLEM CERT | session DECL | trial N | widen PROBLEM | judge PROBLEM WIDENING | mergecap DECL | --help | --version\n"
+usage_line = codes "usage: tracesync obey PROBLEM EXEC | solve PROBLEM | ends PROBLEM P Q | verify PROBLEM CERT | session DECL | trial N | widen PROBLEM | judge PROBLEM WIDENING | blame PROBLEM | mergecap DECL | --help | --version\n"
 
 -- the commands, each with what it is for
 abbrev pub help_text : List ℕ
@@ -88,6 +91,7 @@ help_text =
     ++ codes "  trial N                 answers a session over logs that the program makes, always the same ones for the same N\n"
     ++ codes "  widen PROBLEM           by how many ns every greatest delay must grow at least so that nothing contradicts any more\n"
     ++ codes "  judge PROBLEM WIDENING  whether what widen says is so; if not, the first reason why not\n"
+    ++ codes "  blame PROBLEM           by how much each kind of bound, and each clock's, must widen so that it alone heals a contradiction\n"
     ++ codes "  mergecap DECL < SCRIPT  the packets of all captures that SCRIPT adds, as one capture in the order of their events' times\n"
     ++ codes "\n"
     ++ codes "DECL, PROBLEM, EXEC, CERT and WIDENING are paths of files, relative to where you stand; N is a number below 2^32. What is\n"
@@ -97,4 +101,4 @@ help_text =
 
 -- the number of the version, by the changelog
 abbrev pub version_text : List ℕ
-version_text = codes "tracesync 23\n"
+version_text = codes "tracesync 24\n"

@@ -13,7 +13,7 @@ use Rattle.decl.specs.Walk.{IsDocumentOf}
 use Rattle.widen.specs.declared.widening.Widening.{Widening}
 use Rattle.session.specs.Script.{Devices}
 use Rattle.commands.specs.Asked.{Asked}
-use Rattle.commands.specs.Asked.Asked.{Obey, Solve, Ends, Verify, Session, Trial, Widen, Judge, Mergecap, Help, Version, Nothing}
+use Rattle.commands.specs.Asked.Asked.{Obey, Solve, Ends, Verify, Session, Trial, Widen, Judge, Blame, Mergecap, Help, Version, Nothing}
 use Rattle.commands.specs.Trials.{IsNumber}
 use Rattle.problem_commands.specs.Texts.{SpellsProblem, SpellsCert}
 use Rattle.problem_commands.specs.Widening.{SpellsWidening}
@@ -57,6 +57,7 @@ IsLawfulInput (Session decl) files script = HasScript files decl script
 IsLawfulInput (Trial number) files script = (n : ℕ) × IsNumber n number
 IsLawfulInput (Widen problem) files script = HoldsProblem files problem (λ p. Unit {0})
 IsLawfulInput (Judge problem widening) files script = HoldsProblem files problem (λ p. Holds files widening (IsWideningText p))
+IsLawfulInput (Blame problem) files script = HoldsProblem files problem (λ p. Unit {0})
 IsLawfulInput (Mergecap decl) files script = HasScript files decl script
 IsLawfulInput Help files script = Unit {0}
 IsLawfulInput Version files script = Unit {0}

@@ -16,6 +16,7 @@ use atto::Steps;
 use ports::{Files, Sink, Source, Words};
 use problem::problem_answers_are_one;
 use problem_commands::Status;
+use problem_commands::blame::blame;
 use problem_commands::ends::{TwoNames, ends};
 use problem_commands::judge::judge;
 use problem_commands::last_line::finish;
@@ -68,6 +69,7 @@ fn run_counted<F: Files, I: Source, O: Sink, N: Sink, L: Ledger>(
         Request::Trial { number } => trial(alloc, number, out, &mut steps),
         Request::Widen { problem } => widen(alloc, files, problem, out, &mut steps),
         Request::Judge { problem, widening } => judge(alloc, files, problem, widening, out),
+        Request::Blame { problem } => blame(alloc, files, problem, out, &mut steps),
         Request::Mergecap { decl } => {
             let file = DeclFile { alloc, path: decl };
             mergecap(&file, files, input, out, &mut steps, notes)
@@ -88,9 +90,11 @@ fn run_counted<F: Files, I: Source, O: Sink, N: Sink, L: Ledger>(
 /// declaration; `trial N` makes a workload by its number, and prints how many events and messages a session over it has
 /// at its end, and its replies to the last questions for intervals; `widen PROBLEM` prints the least widening of the
 /// problem, with what shows it from both sides, or that there is none; `judge PROBLEM WIDENING` says whether such a
-/// text shows what it should, or the first reason why not; `mergecap DECL` adds what the lines of the input say, each
-/// an `add`, in a session over the declaration, and prints the packets of all captures as one, in the order of their
-/// events' times; `--help` prints the commands, each with what it is for, `--version` the number of the version.
+/// text shows what it should, or the first reason why not; `blame PROBLEM` prints by how much all delays, stamps or
+/// rates, or those of one clock, must be widened at least so that this alone heals a contradiction; `mergecap DECL`
+/// adds what the lines of the input say, each an `add`, in a session over the declaration, and prints the packets
+/// of all captures as one, in the order of their events' times; `--help` prints the commands, each with what it is
+/// for, `--version` the number of the version.
 /// `Usage` comes where the words are of no form, `BadDecl`, `BadProblem`, `BadExec` and `BadCert` where a text is
 /// refused, `UnknownEvent` where the problem has no event of a name, `ReadFault` where a named file is not there or a
 /// read failed, `ScriptLimit` where the input of a session or of a merge is too long, `NoMerge` where there is no

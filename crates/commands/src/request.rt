@@ -44,6 +44,10 @@ pub enum Request<'a> {
         problem: &'a str,
         widening: &'a str,
     },
+    /// `blame PROBLEM`.
+    Blame {
+        problem: &'a str,
+    },
     /// `mergecap DECL`.
     Mergecap {
         decl: &'a str,
@@ -76,6 +80,7 @@ fn asked_of_one<'a>(name: &str, first: &'a str) -> Request<'a>
         "session" => Request::Session { decl: first },
         "trial" => Request::Trial { number: first },
         "widen" => Request::Widen { problem: first },
+        "blame" => Request::Blame { problem: first },
         "mergecap" => Request::Mergecap { decl: first },
         _ => Request::Nothing,
     }

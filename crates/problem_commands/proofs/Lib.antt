@@ -7,3 +7,4 @@ pub mod Solving
 pub mod Intervals
 pub mod Verifying
 pub mod Widenings
+pub mod Blaming

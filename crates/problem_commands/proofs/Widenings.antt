@@ -16,6 +16,7 @@ use Rattle.cert.specs.Listed.{HasNames}
 use Rattle.cert.proofs.OwnListing.{is_named}
 use Rattle.cert_check.specs.Reasons.{IsAnswer, IsBrokenBy, IsSo}
 use Rattle.cert_check.specs.Widened.{widened}
+use Rattle.cert_check.specs.declared.what.What.{What}
 use Rattle.cert_check.specs.declared.answer.Answer.{Answer}
 use Rattle.cert_check.specs.declared.answer.Answer.TheVariants as answers
 use Rattle.cert_check.specs.declared.answer.Part.{Part}
@@ -31,14 +32,15 @@ use Rattle.widen.specs.WideningFormat.{widening_format}
 use Rattle.widen.specs.ReadsWidening.{ReadsWidening}
 use Rattle.widen.specs.JudgedText.{IsJudgedAs}
 use Rattle.widen.specs.Found.{FindsWidening}
+use Rattle.cert_check.proofs.Comparing.{declared_back}
 use Rattle.widen.proofs.Rising.{shown_least, shown_never}
-use Rattle.widen.proofs.FoundTexts.{declared_back, least_found, never_found, text_of}
+use Rattle.widen.proofs.FoundTexts.{least_found, never_found, text_of}
 use Rattle.problem_commands.specs.Printing.{Prints}
 use Rattle.problem_commands.specs.Refusal.{refused_answer}
 use Rattle.problem_commands.specs.Texts.{SpellsProblem, RefusesProblem}
 use Rattle.problem_commands.specs.Unread.{IsUnread, IsRefusedFor, IsLong, TellsUnread, unread_cert}
 use Rattle.problem_commands.specs.Verify.{NamesReason, NamesAnswer, TellsAnswer, no_line}
-use Rattle.problem_commands.specs.Widening.{SpellsWidening, RefusesWidening, IsTrueOf, IsLeastText, TellsLeast, WideningFound, WideningJudged}
+use Rattle.problem_commands.specs.Widening.{all_delays, SpellsWidening, RefusesWidening, IsTrueOf, IsLeastText, TellsLeast, WideningFound, WideningJudged}
 use Rattle.problem_commands.specs.declared.refusal.Refusal.{Refusal}
 use Rattle.problem_commands.specs.declared.status.Status.{Status}
 use Rattle.problem_commands.specs.declared.status.Status.TheVariants as statuses
@@ -47,12 +49,12 @@ use Rattle.problem_commands.proofs.Printing.{at_status, only_goes, prints_as, un
 use Rattle.problem_commands.proofs.Reading.{IsWhole, spelled_in, unread_as, has_since, both_have}
 
 -- ---- what is found
-true_found : (p : ProblemLists) (w : Widening) → FindsWidening p w → IsTrueOf p w
-true_found p (Least extra execution cycle) found = least_found p extra execution cycle found
-true_found p (Never cycle) found = never_found p cycle found
+true_found : (what : What) (p : ProblemLists) (w : Widening) → FindsWidening what p w → IsTrueOf what p w
+true_found what p (Least extra execution cycle) found = least_found what p extra execution cycle found
+true_found what p (Never cycle) found = never_found what p cycle found
 
-pub least_text : (p : ProblemLists) (readings : List Reading) (w : Widening) → IsProblem p → AreReadings p readings → FindsWidening p w → IsLeastText p (widening_text p (nodes_of p readings) w)
-least_text p readings w lawful are found = (w, true_found p w found, found, (readings, are, text_of p readings lawful are w found))
+pub least_text : (p : ProblemLists) (readings : List Reading) (w : Widening) → IsProblem p → AreReadings p readings → FindsWidening all_delays p w → IsLeastText p (widening_text p (nodes_of p readings) w)
+least_text p readings w lawful are found = (w, true_found all_delays p w found, found, (readings, are, text_of all_delays p readings lawful are w found))
 
 module _ (problem : List ℕ) (old new : FilesTold) (out out' : SinkTold) (result : Status) where
   pub widen_stops : (u : Unread) → IsUnread RefusesProblem problem old new u → Prints (TellsUnread u (codes "problem") statuses.BadProblem) out out' result → Prints (WideningFound problem old new) out out' result
@@ -88,26 +90,26 @@ pub unread_widening : (p : ProblemLists) (readings : List Reading) (path : List 
 unread_widening p readings path old new u are is = unread_as IsLong (RefusesWidening p) path old new u (long_widening p readings are) is
 
 -- ---- the bound that a reason tells of has names
-module _ (p : ProblemLists) (lawful : IsProblem p) (e : ℕ) where
-  broken_run : (b : Bound) (weight difference : ℤ) (values : List ℤ) → IsBrokenBy (widened p e) values (Broken b weight difference) → HasNames (listing_of p) b
+module _ (what : What) (p : ProblemLists) (lawful : IsProblem p) (e : ℕ) where
+  broken_run : (b : Bound) (weight difference : ℤ) (values : List ℤ) → IsBrokenBy (widened what p e) values (Broken b weight difference) → HasNames (listing_of p) b
   broken_run b weight difference values is =
       let first = is.2.2 in
-      let declared = declared_back p e b first.constraint first.declares in
+      let declared = declared_back what p e b first.constraint first.declares in
       is_named p b declared.0 declared.1 lawful
 
-  broken_named : (b : Bound) (weight difference : ℤ) (values : List ℤ) (part : Part) → IsSo (widened p e) (certs.Run values) part (Broken b weight difference) → HasNames (listing_of p) b
+  broken_named : (b : Bound) (weight difference : ℤ) (values : List ℤ) (part : Part) → IsSo (widened what p e) (certs.Run values) part (Broken b weight difference) → HasNames (listing_of p) b
   broken_named b weight difference values Cycle is = absurd is
   broken_named b weight difference values Run is = broken_run b weight difference values is
   broken_named b weight difference values Upper is = absurd is
   broken_named b weight difference values Lower is = absurd is
 
-  leaves_run : (b : Bound) (values : List ℤ) (part : Part) → IsSo (widened p e) (certs.Run values) part (Leaves b) → ⊥
+  leaves_run : (b : Bound) (values : List ℤ) (part : Part) → IsSo (widened what p e) (certs.Run values) part (Leaves b) → ⊥
   leaves_run b values Cycle is = is
   leaves_run b values Run is = is
   leaves_run b values Upper is = is
   leaves_run b values Lower is = is
 
-  run_named : (values : List ℤ) (part : Part) (reason : Reason) → IsSo (widened p e) (certs.Run values) part reason → NamesReason p reason
+  run_named : (values : List ℤ) (part : Part) (reason : Reason) → IsSo (widened what p e) (certs.Run values) part reason → NamesReason p reason
   run_named values part Empty is = tt
   run_named values part (Weight k) is = tt
   run_named values part (Join k) is = tt
@@ -118,19 +120,19 @@ module _ (p : ProblemLists) (lawful : IsProblem p) (e : ℕ) where
   run_named values part Away is = tt
   run_named values part (Leaves b) is = absurd (leaves_run b values part is)
 
-  broken_cycle : (b : Bound) (weight difference : ℤ) (steps : List Step) (part : Part) → IsSo (widened p e) (certs.Cycle steps) part (Broken b weight difference) → ⊥
+  broken_cycle : (b : Bound) (weight difference : ℤ) (steps : List Step) (part : Part) → IsSo (widened what p e) (certs.Cycle steps) part (Broken b weight difference) → ⊥
   broken_cycle b weight difference steps Cycle is = is
   broken_cycle b weight difference steps Run is = is
   broken_cycle b weight difference steps Upper is = is
   broken_cycle b weight difference steps Lower is = is
 
-  leaves_cycle : (b : Bound) (steps : List Step) (part : Part) → IsSo (widened p e) (certs.Cycle steps) part (Leaves b) → ⊥
+  leaves_cycle : (b : Bound) (steps : List Step) (part : Part) → IsSo (widened what p e) (certs.Cycle steps) part (Leaves b) → ⊥
   leaves_cycle b steps Cycle is = is
   leaves_cycle b steps Run is = is
   leaves_cycle b steps Upper is = is
   leaves_cycle b steps Lower is = is
 
-  cycle_named : (steps : List Step) (part : Part) (reason : Reason) → IsSo (widened p e) (certs.Cycle steps) part reason → NamesReason p reason
+  cycle_named : (steps : List Step) (part : Part) (reason : Reason) → IsSo (widened what p e) (certs.Cycle steps) part reason → NamesReason p reason
   cycle_named steps part Empty is = tt
   cycle_named steps part (Weight k) is = tt
   cycle_named steps part (Join k) is = tt
@@ -141,27 +143,27 @@ module _ (p : ProblemLists) (lawful : IsProblem p) (e : ℕ) where
   cycle_named steps part Away is = tt
   cycle_named steps part (Leaves b) is = absurd (leaves_cycle b steps part is)
 
-  run_answer : (values : List ℤ) (answer : Answer) → IsAnswer (widened p e) (certs.Run values) answer → NamesAnswer p answer
+  run_answer : (values : List ℤ) (answer : Answer) → IsAnswer (widened what p e) (certs.Run values) answer → NamesAnswer p answer
   run_answer values answers.Yes is = tt
   run_answer values (answers.No part reason) is = run_named values part reason is.is_so
 
-  cycle_answer : (steps : List Step) (answer : Answer) → IsAnswer (widened p e) (certs.Cycle steps) answer → NamesAnswer p answer
+  cycle_answer : (steps : List Step) (answer : Answer) → IsAnswer (widened what p e) (certs.Cycle steps) answer → NamesAnswer p answer
   cycle_answer steps answers.Yes is = tt
   cycle_answer steps (answers.No part reason) is = cycle_named steps part reason is.is_so
 
-below_answer : (p : ProblemLists) → IsProblem p → (extra : ℕ) (cycle : Option (List Step)) (answer : Answer) → IsAnswerBelow p extra cycle answer → NamesAnswer p answer
-below_answer p lawful extra None answer is = subst (NamesAnswer p) (sym is) tt
-below_answer p lawful extra (Some cycle) answer is = cycle_answer p lawful (extra - 1) cycle answer is
+below_answer : (what : What) (p : ProblemLists) → IsProblem p → (extra : ℕ) (cycle : Option (List Step)) (answer : Answer) → IsAnswerBelow what p extra cycle answer → NamesAnswer p answer
+below_answer what p lawful extra None answer is = subst (NamesAnswer p) (sym is) tt
+below_answer what p lawful extra (Some cycle) answer is = cycle_answer what p lawful (extra - 1) cycle answer is
 
-pub judged_named : (p : ProblemLists) (w : Widening) (answer : Answer) → IsProblem p → IsJudged p w answer → NamesAnswer p answer
-judged_named p (Least extra execution cycle) answer lawful (inl is) = run_answer p lawful extra execution answer is.0
-judged_named p (Least extra execution cycle) answer lawful (inr is) = below_answer p lawful extra cycle answer is.1
-judged_named p (Never cycle) answer lawful is = cycle_answer p lawful most_extra cycle answer is
+pub judged_named : (what : What) (p : ProblemLists) (w : Widening) (answer : Answer) → IsProblem p → IsJudged what p w answer → NamesAnswer p answer
+judged_named what p (Least extra execution cycle) answer lawful (inl is) = run_answer what p lawful extra execution answer is.0
+judged_named what p (Least extra execution cycle) answer lawful (inr is) = below_answer what p lawful extra cycle answer is.1
+judged_named what p (Never cycle) answer lawful is = cycle_answer what p lawful most_extra cycle answer is
 
 -- ---- what is shown is true
-true_shown : (p : ProblemLists) (w : Widening) (text : List ℕ) → SpellsWidening p w text → ShowsWidening p w → IsTrueOf p w
-true_shown p (Least extra execution cycle) text (readings, are, is) shows = shown_least p extra execution cycle is.2.0 is.1 shows
-true_shown p (Never cycle) text spelled shows = shown_never p cycle shows
+true_shown : (what : What) (p : ProblemLists) (w : Widening) (text : List ℕ) → SpellsWidening p w text → ShowsWidening what p w → IsTrueOf what p w
+true_shown what p (Least extra execution cycle) text (readings, are, is) shows = shown_least what p extra execution cycle is.2.0 is.1 shows
+true_shown what p (Never cycle) text spelled shows = shown_never what p cycle shows
 
 -- ---- how a run ends
 module _ (problem widening : List ℕ) (out out' : SinkTold) (result : Status) where
@@ -188,13 +190,13 @@ module _ (problem widening : List ℕ) (out out' : SinkTold) (result : Status) w
 
     -- the widening was judged
     module _ (w : Widening) (spelled : HasBytes mid.content widening (SpellsWidening p w)) where
-      answer_goes : (answer : Answer) → IsJudgedAs p w answer → (status : Status) (text : List ℕ) → TellsAnswer p answer status text → WideningJudged problem widening old new status text
+      answer_goes : (answer : Answer) → IsJudgedAs all_delays p w answer → (status : Status) (text : List ℕ) → TellsAnswer p answer status text → WideningJudged problem widening old new status text
       answer_goes answers.Yes is status text tells =
           only_goes (WideningJudged problem widening old new) (codes "yes\n") statuses.Done (
             p,
             w,
-            both_have old.content problem widening (SpellsProblem p) (SpellsWidening p w) (λ read more. SpellsProblem p read × SpellsWidening p w more × ShowsWidening p w × IsTrueOf p w)
-                (λ read more spells spelled. (spells, spelled, is.exact.1 refl, true_shown p w more spelled (is.exact.1 refl))) has (has_since (SpellsWidening p w) old.content mid.content widening keeps.same spelled),
+            both_have old.content problem widening (SpellsProblem p) (SpellsWidening p w) (λ read more. SpellsProblem p read × SpellsWidening p w more × ShowsWidening all_delays p w × IsTrueOf all_delays p w)
+                (λ read more spells spelled. (spells, spelled, is.exact.1 refl, true_shown all_delays p w more spelled (is.exact.1 refl))) has (has_since (SpellsWidening p w) old.content mid.content widening keeps.same spelled),
             refl,
           ) status text tells
       answer_goes (answers.No part reason) is status text tells =
@@ -203,7 +205,7 @@ module _ (problem widening : List ℕ) (out out' : SinkTold) (result : Status) w
             w,
             part,
             reason,
-            both_have old.content problem widening (SpellsProblem p) (SpellsWidening p w) (λ read more. SpellsProblem p read × SpellsWidening p w more × (ShowsWidening p w → ⊥) × IsJudged p w (answers.No part reason))
+            both_have old.content problem widening (SpellsProblem p) (SpellsWidening p w) (λ read more. SpellsProblem p read × SpellsWidening p w more × (ShowsWidening all_delays p w → ⊥) × IsJudged all_delays p w (answers.No part reason))
                 (λ read more spells spelled. (spells, spelled, (λ shows. no_yes (is.exact.0 shows)), is.judged)) has (has_since (SpellsWidening p w) old.content mid.content widening keeps.same spelled),
             refl,
           ) status text tells
@@ -211,5 +213,5 @@ module _ (problem widening : List ℕ) (out out' : SinkTold) (result : Status) w
           no_yes : answers.No part reason ≡ answers.Yes → ⊥
           no_yes e = absurd cc
 
-      pub judged : (answer : Answer) → IsJudgedAs p w answer → Prints (TellsAnswer p answer) out out' result → Prints (WideningJudged problem widening old new) out out' result
+      pub judged : (answer : Answer) → IsJudgedAs all_delays p w answer → Prints (TellsAnswer p answer) out out' result → Prints (WideningJudged problem widening old new) out out' result
       judged answer is prints = prints_as (TellsAnswer p answer) (WideningJudged problem widening old new) out out' result (answer_goes answer is) prints

@@ -8,3 +8,4 @@ pub mod Solve
 pub mod Intervals
 pub mod Verify
 pub mod Widening
+pub mod Blame

@@ -7,6 +7,9 @@ use Rattle.problem_model.specs.Nodes.{Reading, AreReadings}
 use Rattle.cert_check.specs.declared.answer.Part.{Part}
 use Rattle.cert_check.specs.declared.answer.Reason.{Reason}
 use Rattle.cert_check.specs.declared.answer.Answer.TheVariants as answers
+use Rattle.cert_check.specs.declared.what.Links.TheVariants as links
+use Rattle.cert_check.specs.declared.what.What.{What}
+use Rattle.cert_check.specs.declared.what.What.TheVariants.{Delays}
 use Rattle.widen.specs.declared.widening.Widening.{Widening}
 use Rattle.widen.specs.declared.widening.Widening.TheVariants.{Least, Never}
 use Rattle.widen.specs.Least.{IsLeastWidening, HasNoWidening}
@@ -22,6 +25,10 @@ use Rattle.problem_commands.specs.declared.status.Status.{Status}
 use Rattle.problem_commands.specs.declared.status.Status.TheVariants.{Done, No, BadProblem, BadCert, ReadFault}
 
 -- ---- texts
+-- what `widen` widens: all greatest delays
+abbrev pub all_delays : What
+all_delays = Delays links.All
+
 -- the text is that of this widening of the problem
 abbrev pub SpellsWidening : ProblemLists → Widening → List ℕ → Type 0
 SpellsWidening p w text = (readings : List Reading) × AreReadings p readings × IsWideningTextOf p readings w text
@@ -31,14 +38,14 @@ abbrev pub RefusesWidening : ProblemLists → List ℕ → Refusal → Type 0
 RefusesWidening p text refusal = (readings : List Reading) × AreReadings p readings × Answers (widening_format p readings) text (refused_answer refusal)
 
 -- what a widening says: that it is the least one, or that there is none
-abbrev pub IsTrueOf : ProblemLists → Widening → Type 0
-IsTrueOf p (Least extra execution cycle) = IsLeastWidening p extra
-IsTrueOf p (Never cycle) = HasNoWidening p
+abbrev pub IsTrueOf : What → ProblemLists → Widening → Type 0
+IsTrueOf what p (Least extra execution cycle) = IsLeastWidening what p extra
+IsTrueOf what p (Never cycle) = HasNoWidening what p
 
 -- ---- widen
 -- the text of the least widening, with the earliest execution and the contradiction that show it, or that there is none
 abbrev pub IsLeastText : ProblemLists → List ℕ → Type 0
-IsLeastText p text = (w : Widening) × IsTrueOf p w × FindsWidening p w × SpellsWidening p w text
+IsLeastText p text = (w : Widening) × IsTrueOf all_delays p w × FindsWidening all_delays p w × SpellsWidening p w text
 
 -- what is printed of a problem
 abbrev pub TellsLeast : ProblemLists → Status → List ℕ → Type 0
@@ -55,10 +62,10 @@ WideningFound problem old new _ text = ⊥
 -- what `judge` prints, with which status, and when
 abbrev pub WideningJudged : List ℕ → List ℕ → FilesTold → FilesTold → Status → List ℕ → Type 0
 WideningJudged problem widening old new Done line = (p : ProblemLists) × (w : Widening)
-    × BothHave old.content problem widening (λ text more. SpellsProblem p text × SpellsWidening p w more × ShowsWidening p w × IsTrueOf p w)
+    × BothHave old.content problem widening (λ text more. SpellsProblem p text × SpellsWidening p w more × ShowsWidening all_delays p w × IsTrueOf all_delays p w)
     × (line ≡ codes "yes\n")
 WideningJudged problem widening old new No line = (p : ProblemLists) × (w : Widening) × (part : Part) × (reason : Reason)
-    × BothHave old.content problem widening (λ text more. SpellsProblem p text × SpellsWidening p w more × (ShowsWidening p w → ⊥) × IsJudged p w (answers.No part reason))
+    × BothHave old.content problem widening (λ text more. SpellsProblem p text × SpellsWidening p w more × (ShowsWidening all_delays p w → ⊥) × IsJudged all_delays p w (answers.No part reason))
     × (line ≡ no_line p part reason)
 WideningJudged problem widening old new BadProblem line = IsBadProblem problem old.content line
 WideningJudged problem widening old new BadCert line = (p : ProblemLists) × (refusal : Refusal)

@@ -5,13 +5,13 @@ ghost use Rattle.widen.specs.declared.widening.Widening.{Widening};
 ghost use Rattle.widen.specs.JudgedText.{IsJudgedAs};
 ghost use Rattle.problem_commands.specs.Printing.{Prints};
 ghost use Rattle.problem_commands.specs.Unread.{IsUnread, IsRefusedFor};
-ghost use Rattle.problem_commands.specs.Widening.{SpellsWidening, RefusesWidening, WideningJudged};
+ghost use Rattle.problem_commands.specs.Widening.{all_delays, SpellsWidening, RefusesWidening, WideningJudged};
 
 use crate::last_line::stop;
 use crate::status::Status;
 use crate::texts::{Unread, problem_in, text_in, unread_cert};
 use crate::verify::answer;
-use cert_check::Answer;
+use cert_check::{Answer, Links, What};
 use ports::{Files, Sink};
 use problem::Problem;
 use std::alloc::Global;
@@ -19,12 +19,12 @@ use widen::judge_text;
 
 // What judging the widening answers that a text spells.
 fn judged_of(alloc: Global, p: &Problem, text: &[u8]) -> Result<Answer, Unread>
-    ensures ok { IfOk result (λ answer. (w : Widening) × SpellsWidening p.now w text.now × IsJudgedAs p.now w answer) }
+    ensures ok { IfOk result (λ answer. (w : Widening) × SpellsWidening p.now w text.now × IsJudgedAs all_delays p.now w answer) }
     ensures err { IfErr result (IsRefusedFor (RefusesWidening p.now) text.now) }
 {
     // It tells what the readings of the problem are.
     let _readings = p.readings();
-    match judge_text(alloc, p, text) {
+    match judge_text(alloc, p, What::Delays(Links::All), text) {
         Ok(answer) => Ok(answer),
         Err(error) => Err(unread_cert(error)),
     }
@@ -37,7 +37,7 @@ fn judged_in<F: Files>(
     path: &str,
     p: &Problem,
 ) -> Result<Answer, Unread>
-    ensures ok { IfOk result (λ answer. (w : Widening) × HasBytes (F.told files.old).content path.now (SpellsWidening p.now w) × IsJudgedAs p.now w answer) }
+    ensures ok { IfOk result (λ answer. (w : Widening) × HasBytes (F.told files.old).content path.now (SpellsWidening p.now w) × IsJudgedAs all_delays p.now w answer) }
     ensures err { IfErr result (IsUnread (RefusesWidening p.now) path.now (F.told files.old) (F.told files.new)) }
     ensures keeps { Keeps (F.told files.old) (F.told files.new) }
 {

@@ -1,6 +1,7 @@
-//! The commands over texts of problems: `obey`, `solve`, `ends`, `verify`, `widen` and `judge`.
+//! The commands over texts of problems: `obey`, `solve`, `ends`, `verify`, `widen`, `judge` and `blame`.
 #![tactic(auto)]
 
+pub mod blame;
 pub mod ends;
 pub mod judge;
 pub mod last_line;

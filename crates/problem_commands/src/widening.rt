@@ -2,12 +2,13 @@
 ghost use Rattle.ports.specs.Files.{Keeps};
 ghost use Rattle.widen.specs.Found.{FindsWidening};
 ghost use Rattle.problem_commands.specs.Printing.{Prints};
-ghost use Rattle.problem_commands.specs.Widening.{TellsLeast, WideningFound};
+ghost use Rattle.problem_commands.specs.Widening.{all_delays, TellsLeast, WideningFound};
 
 use crate::last_line::stop;
 use crate::status::Status;
 use crate::texts::problem_in;
 use atto::Steps;
+use cert_check::{Links, What};
 use ports::{Failed, Files, Sink};
 use problem::Problem;
 use std::alloc::Global;
@@ -16,7 +17,7 @@ use widen::{Widening, least_widening, write_widening};
 
 // Prints the text of what was found, and answers the status.
 fn print_widening<O: Sink>(p: &Problem, w: &Widening, out: &mut O) -> Status
-    requires { FindsWidening p.now w.now }
+    requires { FindsWidening all_delays p.now w.now }
     ensures { Prints (TellsLeast p.now) (O.told out.old) (O.told out.new) result }
 {
     // It tells that the problem is lawful.
@@ -36,7 +37,7 @@ fn answer<O: Sink, L: Ledger>(
 ) -> Status
     ensures { Prints (TellsLeast p.now) (O.told out.old) (O.told out.new) result }
 {
-    match least_widening(alloc, p, steps) {
+    match least_widening(alloc, p, What::Delays(Links::All), steps) {
         Ok(w) => print_widening(p, &w, out),
         Err(_) => Status::Memory,
     }

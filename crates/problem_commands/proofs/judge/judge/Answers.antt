@@ -1,9 +1,10 @@
 use Rattle.ports.proofs.Keeping.{keeps_then}
+use Rattle.problem_commands.specs.Widening.{all_delays}
 use Rattle.problem_commands.proofs.Widenings.{judged_named, judge_stops, widening_stops, judged}
 use Rattle.problem_commands.proofs.judge.judge.Goals as goal
 
 pub answer-requires : goal.answer-requires
-answer-requires g c = let found = c.in-Ok-judged_in.ensures.ok in judged_named c.in-Ok.p found.0 c.in-Ok-judged_in.found c.events.ensures.lawful found.2.judged
+answer-requires g c = let found = c.in-Ok-judged_in.ensures.ok in judged_named all_delays c.in-Ok.p found.0 c.in-Ok-judged_in.found c.events.ensures.lawful found.2.judged
 
 pub returns-in-Err-clause-judged : goal.returns-in-Err-clause-judged
 returns-in-Err-clause-judged g c =

@@ -1,13 +1,13 @@
 use Rattle.std.proofs.Common.{refl}
 use Rattle.widen.proofs.FoundTexts.{widening_of}
-use Rattle.problem_commands.specs.Widening.{TellsLeast}
+use Rattle.problem_commands.specs.Widening.{all_delays, TellsLeast}
 use Rattle.problem_commands.specs.declared.status.Status.TheVariants.{Done}
 use Rattle.problem_commands.proofs.Printing.{written_prints, failed_prints}
 use Rattle.problem_commands.proofs.Widenings.{least_text}
 use Rattle.problem_commands.proofs.widening.print_widening.Goals as goal
 
 pub write_widening-requires : goal.write_widening-requires
-write_widening-requires g c = widening_of c.args.p.now c.args.w.now c.requires
+write_widening-requires g c = widening_of all_delays c.args.p.now c.args.w.now c.requires
 
 pub returns-in-Ok : goal.returns-in-Ok
 returns-in-Ok g c =
