@@ -5,19 +5,21 @@
 
 Each of N seeds, 10 if it is not said and 2 with --quick, has four cases: captures of all packets; 2 % of the frames
 lost on the way; some doubled and overtaken; and 10 % of the records dropped from each capture, of a way that loses,
-doubles and reorders too. Connections of TCP and datagrams of UDP go both ways, over IPv4 and IPv6. A session over each
-two captures is declared with and without `tcp_options`.
+doubles and reorders too. Connections of TCP and datagrams of UDP go both ways, over IPv4 and IPv6, some of these in
+fragments, and over IPv6 some behind extension headers. A session over each two captures is declared with
+`tcp_options` and `fragments`, and with neither.
 
 What is true: one kernel clock stamps both captures, and support/network.py knows which record is a copy of which
 packet. Then the stamps of `b` are moved by hours, and by a rate within the declared one; the program is not told.
 
 What is wanted: no message joins a send with the receive of another packet, captures are no contradiction, and the
-interval from a send to each receive of it has the real time between them. With `tcp_options`, and 2 % lost on the way,
-99 % of the TCP segments over IPv6 of which each capture has a copy are messages. Two exchanged records and false
-stamps have to be found out, else this test could not fail.
+interval from a send to each receive of it has the real time between them. With the words, and 2 % lost on the way,
+99 % of the TCP segments over IPv6 of which each capture has a copy are messages; where nothing is lost, so is each
+fragment, and each datagram behind extension headers. Two exchanged records and false stamps have to be found out, else
+this test could not fail.
 
 What is assumed: a segment is sent again a tick of its timestamps later, 1 ms, since the box holds each frame longer;
-and datagrams differ in their first eight bytes. Without `tcp_options` segments without an identification, which are
+and datagrams differ in their first eight bytes. Without the words segments without an identification, which are
 those over IPv6, and over IPv4 what Linux answers a SYN by, are known by too little: what is wrong of them is counted,
 and no failure.
 
@@ -56,8 +58,13 @@ MOST_OFFSET, MOST_RATE = 4 * 3600 * 10**9, 40_000
 WRONG = 10 * 10**9
 # Of the segments that can be messages, how many are.
 LEAST_FOUND = 0.99
-# As many as conversations have ends.
-THREADS = 18
+# As many as conversations have ends, those of datagrams one for both.
+THREADS = 21
+# Datagrams: how many, and how many bytes each has behind its first eight; the wide ones are more than a frame carries.
+FEW, WIDE = (120, range(40)), (30, range(1_500, 6_000))
+# An extension header of IPv6: its next header, which the kernel writes, no more than eight bytes, and options of six
+# bytes that say nothing (RFC 8200).
+EXTENSION = bytes((0, 0, 1, 4)) + bytes(4)
 HOST = """
 [hosts.{0}]
 short = 50_000
@@ -72,8 +79,12 @@ kind = "capture"
 """
 LINK = '[[links]]\nfrom = "{}"\nto = "{}"\nleast = 1\n'
 OVER_IPV6, BARE = "TCP over IPv6", "TCP over IPv4 without an identification"
-# What is known by too little without `tcp_options`.
+# What is known by too little without the words.
 ASSUMED = (OVER_IPV6, BARE)
+# What has a key with the words alone, and is one message each where nothing is lost.
+EXTENDED = "UDP over IPv6 behind extension headers"
+APART = ("fragments over IPv4", "fragments over IPv6", EXTENDED)
+EXTENSIONS, FRAGMENT = (0, 43, 60), 44
 COUNTS = ("packets", "possible", "messages", "false", "ambiguous")
 
 Captures = dict[str, list[Record]]  # by host
@@ -115,9 +126,9 @@ class Found:
         self.contradictions += other.contradictions
         self.outside += other.outside
 
-    def faults(self, has_options: bool) -> list[str]:
+    def faults(self, has_words: bool) -> list[str]:
         """What is wrong of a session."""
-        told = [kind for kind in self.false if has_options or kind not in ASSUMED]
+        told = [kind for kind in self.false if has_words or kind not in ASSUMED]
         wrong = [f"{self.false[kind]} false pairs of {kind}" for kind in told]
         if not self.false:
             wrong += ["a contradiction"] * self.contradictions
@@ -152,11 +163,11 @@ def receive(connection: socket.socket, count: int) -> None:
         count -= part
 
 
-def throw(ends: Sequence[socket.socket], draw: Random) -> None:
+def throw(ends: Sequence[socket.socket], draw: Random, count: int, sizes: range) -> None:
     """Sends datagrams from both ends, each with other first bytes."""
     with ends[0], ends[1]:
-        for _ in range(120):
-            draw.choice(ends).send(draw.randbytes(8) + bytes(draw.randrange(40)))
+        for _ in range(count):
+            draw.choice(ends).send(draw.randbytes(8) + bytes(draw.choice(sizes)))
             time.sleep(draw.random() * 0.003)
 
 
@@ -169,9 +180,20 @@ def bound(network: Network, host: str, family: int, kind: int) -> tuple[socket.s
     return found, found.getsockname()[:2]
 
 
+def joined(network: Network, family: int, has_headers: bool) -> list[socket.socket]:
+    """Both ends of a conversation by datagrams, with or without extension headers."""
+    (one, here), (two, there) = (bound(network, host, family, socket.SOCK_DGRAM) for host in HOSTS)
+    one.connect(there)
+    two.connect(here)
+    for it in (one, two) if has_headers else ():
+        it.setsockopt(socket.IPPROTO_IPV6, socket.IPV6_HOPOPTS, EXTENSION)
+        it.setsockopt(socket.IPPROTO_IPV6, socket.IPV6_DSTOPTS, EXTENSION)
+    return [one, two]
+
+
 def talk(pool: ThreadPoolExecutor, network: Network, draw: Random) -> list[Future[None]]:
     """Begins all conversations: over both families a connection each way that carries much and one that takes many
-    turns, and datagrams."""
+    turns, and datagrams, of which some are wide; and over IPv6 some behind extension headers."""
     begun = []
     for family in ADDRESSES:
         for host, other in (HOSTS, HOSTS[::-1]):
@@ -182,10 +204,9 @@ def talk(pool: ThreadPoolExecutor, network: Network, draw: Random) -> list[Futur
                 listener.listen()
                 connection, _ = bound(network, host, family, socket.SOCK_STREAM)
                 begun += [pool.submit(serve, listener, turns), pool.submit(ask, connection, address, turns)]
-        (one, here), (two, there) = (bound(network, host, family, socket.SOCK_DGRAM) for host in HOSTS)
-        one.connect(there)
-        two.connect(here)
-        begun.append(pool.submit(throw, (one, two), Random(draw.random())))
+        for count, sizes in (FEW, WIDE):
+            begun.append(pool.submit(throw, joined(network, family, False), Random(draw.random()), count, sizes))
+    begun.append(pool.submit(throw, joined(network, socket.AF_INET6, True), Random(draw.random()), *FEW))
     return begun
 
 
@@ -206,20 +227,36 @@ def captured(network: Network, case: Case, draw: Random) -> Captures:
     return {host: [it for it in taken[host] if draw.random() >= case.dropped] for host in HOSTS}
 
 
+def behind(frame: bytes) -> int:
+    """The number of what stands behind the extension headers of a frame of IPv6, or of that of a fragment."""
+    number, at = frame[20], 54
+    while number in EXTENSIONS:
+        number, at = frame[at], at + 8 * (frame[at + 1] + 1)
+    return number
+
+
 def kind_of(frame: bytes) -> str:
     """The protocols of a frame; of one that is no message, an empty text."""
-    place, family = {b"\x08\x00": (23, "IPv4"), b"\x86\xdd": (20, "IPv6")}.get(frame[12:14], (0, ""))
-    protocol = {6: "TCP", 17: "UDP"}.get(frame[place]) if family else None
+    family = {b"\x08\x00": "IPv4", b"\x86\xdd": "IPv6"}.get(frame[12:14])
+    if family is None:
+        return ""
+    number = behind(frame) if family == "IPv6" else frame[23]
+    protocol = {6: "TCP", 17: "UDP"}.get(number)
+    if number == FRAGMENT or (family == "IPv4" and int.from_bytes(frame[20:22], "big") & 0x3FFF):
+        return f"fragments over {family}"
     if (protocol, family, frame[18:20]) == ("TCP", "IPv4", bytes(2)):
         return BARE
+    if protocol and family == "IPv6" and frame[20] in EXTENSIONS:
+        return EXTENDED
     return f"{protocol} over {family}" if protocol else ""
 
 
-def declaration(has_options: bool) -> str:
+def declaration(has_words: bool) -> str:
     """What is declared."""
     hosts = "".join(HOST.format(host, number) for number, host in enumerate(HOSTS, 1))
     links = LINK.format(*HOSTS) + LINK.format(*HOSTS[::-1])
-    return f"payload_bytes = 8\ntcp_options = {str(has_options).lower()}\n{hosts}{links}"
+    said = str(has_words).lower()
+    return f"payload_bytes = 8\ntcp_options = {said}\nfragments = {said}\n{hosts}{links}"
 
 
 def true_pairs(captures: Captures) -> list[tuple[str, str]]:
@@ -229,13 +266,13 @@ def true_pairs(captures: Captures) -> list[tuple[str, str]]:
     return [(sends[it.packet], name) for it, name in receives if it.packet in sends]
 
 
-def judge(folder: str, captures: Captures, has_options: bool) -> Found:
+def judge(folder: str, captures: Captures, has_words: bool) -> Found:
     """What a session over the captures comes to, beside what is true of them."""
     found = Found()
     records = {f"{host}#{n}": it for host in HOSTS for n, it in enumerate(captures[host], 1)}
     kinds = {name: kind_of(it.frame) for name, it in records.items()}
     pairs = [it for it in true_pairs(captures) if kinds[it[0]]]
-    path = write(f"{folder}/hosts.toml", declaration(has_options))
+    path = write(f"{folder}/hosts.toml", declaration(has_words))
     for host in HOSTS:
         write(f"{folder}/{host}.pcap", classic((it.stamp, it.frame) for it in captures[host]))
     adds = [f"add {host} {folder}/{host}.pcap" for host in HOSTS]
@@ -281,10 +318,10 @@ def missed(folder: str, captures: Captures) -> list[str]:
     return [f"not found out: {what}" for what, is_found in found if not is_found]
 
 
-def show(case: Case, has_options: bool, found: Found) -> None:
+def show(case: Case, has_words: bool, found: Found) -> None:
     """Prints what was counted of a case."""
     wrong = f"{found.contradictions} contradictions, {found.outside} intervals beside the truth"
-    print(f"{case.name}, {'with' if has_options else 'without'} tcp_options: {wrong}")
+    print(f"{case.name}, {'with' if has_words else 'without'} tcp_options and fragments: {wrong}")
     for kind in sorted(filter(None, found.packets)):
         print(f"    {kind:40}", *(f"{getattr(found, it)[kind]:6} {it}" for it in COUNTS), flush=True)
 
@@ -295,20 +332,24 @@ def run_case(network: Network, folder: str, case: Case, seeds: int) -> list[str]
     totals = {True: Found(), False: Found()}
     for seed in range(1, seeds + 1):
         captures = captured(network, case, Random(f"{case.name} {seed}"))
-        for has_options, total in totals.items():
-            found = judge(folder, captures, has_options)
-            faults = [f"{case.name}, seed {seed}: {it}" for it in found.faults(has_options)]
+        for has_words, total in totals.items():
+            found = judge(folder, captures, has_words)
+            faults = [f"{case.name}, seed {seed}: {it}" for it in found.faults(has_words)]
             if faults:
                 shutil.copytree(folder, f"{LEFT}/namespaces/{case.name.replace(' ', '_')}-{seed}", dirs_exist_ok=True)
             wrong += faults
             total.add(found)
         if case is CASES[0] and seed == 1:
             wrong += missed(folder, captures)
-    for has_options, total in totals.items():
-        show(case, has_options, total)
+    for has_words, total in totals.items():
+        show(case, has_words, total)
     share = totals[True].messages[OVER_IPV6] / max(totals[True].possible[OVER_IPV6], 1)
     if case.name == "loss" and share < LEAST_FOUND:
         wrong.append(f"{case.name}: only {share:.2%} of what is possible of {OVER_IPV6} are messages")
+    for kind in APART if case is CASES[0] else ():
+        possible, messages = totals[True].possible[kind], totals[True].messages[kind]
+        if not possible or messages < possible:
+            wrong.append(f"{case.name}: only {messages} of {possible} are messages of {kind}")
     return wrong
 
 

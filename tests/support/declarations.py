@@ -21,7 +21,7 @@ HOST_KEYS: dict[str, type] = {**{it: int for it in RATES}, "addresses": list, "a
 CLOCK_KEYS: dict[str, type] = {"name": str, **{it: int for it in RATES}, "gap": int}
 LABEL_KEYS = {"host": str, "kind": str, "clock": str}
 LINK_KEYS = {"from": str, "to": str, "least": int, "most": int}
-TOP_KEYS = {"hosts": dict, "labels": dict, "links": list, "payload_bytes": int, "source": str, "tcp_options": bool}
+TOP_KEYS = {"fragments": bool, "hosts": dict, "labels": dict, "links": list, "payload_bytes": int, "source": str, "tcp_options": bool}
 
 Table = dict[str, Any]
 

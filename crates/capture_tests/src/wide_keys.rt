@@ -122,6 +122,7 @@ fn fields(payload_bytes: u8) -> Wanted
     Wanted {
         payload_bytes,
         tcp_options: false,
+        fragments: false,
     }
 }
 
@@ -156,7 +157,7 @@ fn has_addresses(network: Network) -> bool {
 // UDP from port 5000 to port 6000, of eight bytes.
 fn is_empty_datagram(transport: &Transport) -> bool {
     match transport {
-        Transport::Tcp(_) => false,
+        Transport::Tcp(_) | Transport::Fragment(_) => false,
         Transport::Udp(datagram) => {
             datagram.source_port == 5000
                 && datagram.target_port == 6000
@@ -195,7 +196,7 @@ fn is_segment_with(transport: &Transport, payload: &[u8]) -> bool {
                 && segment.length == 10
                 && segment.payload.as_slice() == payload
         }
-        Transport::Udp(_) => false,
+        Transport::Udp(_) | Transport::Fragment(_) => false,
     }
 }
 

@@ -3,7 +3,7 @@ ghost use Rattle.std.specs.Prelude.{◌≡◌, ◌<◌, IfOk};
 ghost use Rattle.widen.specs.Widening.{IsWideningOf};
 
 use atto::Steps;
-use cert_check::Answer;
+use cert_check::{Answer, Links, What};
 use ports::MemSink;
 use problem::{Problem, read_problem};
 use std::alloc::{AllocError, Global};
@@ -77,7 +77,7 @@ fn found_counted<L: Ledger>(
     ensures { IfOk result (λ w. IsWideningOf p.now w) }
 {
     let mut steps = Steps::<L>::open(blank);
-    least_widening(alloc, p, &mut steps)
+    least_widening(alloc, p, What::Delays(Links::All), &mut steps)
 }
 
 // The least widening of a problem.
@@ -96,7 +96,7 @@ fn begins(alloc: Global, p: &Problem, w: &Widening, head: &str) -> bool
     };
     write_widening(p, w, &mut out).is_ok()
         && out.bytes().starts_with(head.as_bytes())
-        && judge_text(alloc, p, out.bytes()) == Ok(Answer::Yes)
+        && judge_text(alloc, p, What::Delays(Links::All), out.bytes()) == Ok(Answer::Yes)
 }
 
 // Whether that of the least widening of a problem does.

@@ -21,6 +21,8 @@ mod follow_steps;
 #[cfg(test)]
 mod found;
 #[cfg(test)]
+mod kinds;
+#[cfg(test)]
 mod parts;
 #[cfg(test)]
 mod rounds;

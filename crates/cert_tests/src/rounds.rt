@@ -2,6 +2,7 @@
 ghost use Rattle.std.specs.Prelude.{◌≡◌, ◌<◌};
 
 use atto::Steps;
+use cert_check::{Links, What};
 use problem::{Problem, read_problem};
 use std::alloc::{AllocError, Global};
 use std::marker::Brand;
@@ -44,7 +45,7 @@ fn found_counted<L: Ledger>(alloc: Global, p: &Problem, blank: Blank) -> Result<
     requires { (blank.name ≡ L.name) × (blank.parts ≡ L.parts) × (0 < L.parts) }
 {
     let mut steps = Steps::<L>::open(blank);
-    widening_in_rounds(alloc, p, &mut steps)
+    widening_in_rounds(alloc, p, What::Delays(Links::All), &mut steps)
 }
 
 // By how many ns, where there is a least widening, and whether that was found in fewer rounds than this.

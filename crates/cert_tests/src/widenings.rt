@@ -1,6 +1,6 @@
 // Worked texts of widenings: what judging them answers, why others are refused, and that they are written as they are read.
 use cert::CertError;
-use cert_check::{Answer, Part, Reason};
+use cert_check::{Answer, Links, Part, Reason, What};
 use problem::{Problem, read_problem};
 use problem_model::Bound;
 use shared_fixtures::{CONTRADICTING_PROBLEM, HOPELESS_PROBLEM, TWO_LOGS_PROBLEM};
@@ -118,7 +118,7 @@ fn answer_with(
 ) -> Result<Answer, CertError> {
     let mut bytes = Vec::new(alloc);
     match push_lines(&mut bytes, lines, place, text) {
-        Ok(()) => judge_text(alloc, p, &bytes),
+        Ok(()) => judge_text(alloc, p, What::Delays(Links::All), &bytes),
         Err(_) => Err(CertError::Memory),
     }
 }

@@ -1,4 +1,4 @@
-// The least widening of a problem is printed, and judged.
+// The least widening of a problem is printed, and judged; what each candidate has to do with a contradiction is told.
 use crate::runs::{NO_SCRIPT, Wanted, answers, prints, run_over};
 use ports::{MemFiles, MemSink};
 use problem_commands::Status;
@@ -157,5 +157,26 @@ fn what_is_not_there_is_not_widened(rt: HostRuntime) -> Result<(), Fail> {
             "read fault\n"
         )?
     );
+    Ok(())
+}
+
+// What each candidate has to do with the contradicting problem, in which 95 ns of a stand against 50 of b and two messages of
+// 20 at most; and with the one whose message takes 20 ns at least, while its clock counts 10.
+const BLAMED: &str =
+    "blame delays 3 ns\nblame least none\nblame stamps 2 ns\nblame rates 34482759 ppb\nblame stamps a 3 ns\n\
+    blame rates a 52631579 ppb\nblame stamps b 3 ns\nblame rates b 100000000 ppb\nend\n";
+
+const BLAMED_LEAST: &str =
+    "blame delays none\nblame least 10 ns\nblame stamps 5 ns\nblame rates 1000000000 ppb\nblame stamps c 5 ns\n\
+    blame rates c 1000000000 ppb\nend\n";
+
+#[test]
+fn each_candidate_is_told(rt: HostRuntime) -> Result<(), Fail> {
+    let alloc = rt.alloc();
+    let words = ["blame", "p"];
+    let done = Status::Done;
+    assert!(rt; ends_so(alloc, &words, CONTRADICTING_PROBLEM, done, BLAMED)?);
+    assert!(rt; ends_so(alloc, &words, HOPELESS_PROBLEM, done, BLAMED_LEAST)?);
+    assert!(rt; ends_so(alloc, &words, TWO_LOGS_PROBLEM, done, "blame none\n")?);
     Ok(())
 }

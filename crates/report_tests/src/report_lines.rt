@@ -5,10 +5,12 @@ ghost use Rattle.std.specs.Str.{IsAscii};
 ghost use Rattle.report.specs.Merging.{AreApart};
 ghost use Rattle.report.specs.Report.{HasAsciiKey};
 
+use captures::Dropped;
 use ports::MemSink;
 use problem_model::Name;
 use report::{
-    MergeKey, NamedGroup, NoKeys, PassedSums, View, merge_order, report_line, write_merge_line,
+    LabelDrops, MergeKey, NamedGroup, NoKeys, PassedSums, View, merge_order, report_line,
+    write_merge_line,
 };
 use shared_fixtures::EMPTY_REPORT;
 use std::alloc::{AllocError, Global};
@@ -21,6 +23,13 @@ struct Group {
     receives: &'static [&'static str],
 }
 
+// A label with packets that were dropped.
+#[derive(Clone, Copy)]
+struct Drops {
+    label: &'static str,
+    dropped: Dropped,
+}
+
 // What is reported, and its line.
 #[derive(Clone, Copy)]
 struct Case {
@@ -30,6 +39,7 @@ struct Case {
     consistent: bool,
     nokeys: NoKeys,
     passed: PassedSums,
+    dropped: &'static [Drops],
     groups: &'static [Group],
     line: &'static str,
 }
@@ -58,6 +68,7 @@ const NOTHING: Case = Case {
     consistent: true,
     nokeys: NO_EVENT,
     passed: NONE_PASSED,
+    dropped: &[],
     groups: &[],
     line: EMPTY_REPORT,
 };
@@ -69,12 +80,20 @@ const SECOND_SEND: Case = Case {
     consistent: true,
     nokeys: NO_EVENT,
     passed: NONE_PASSED,
+    dropped: &[Drops {
+        label: "b",
+        dropped: Dropped {
+            interface: 0,
+            system: 18446744073709551615,
+        },
+    }],
     groups: &[Group {
         key: "log m1",
         sends: &["a#1", "a#3"],
         receives: &["b#1"],
     }],
     line: "{\"ambiguous\":[{\"key\":\"log m1\",\"receives\":[\"b#1\"],\"sends\":[\"a#1\",\"a#3\"]}],\"consistent\":true,\
+    \"dropped\":[{\"interface\":0,\"label\":\"b\",\"system\":18446744073709551615}],\
     \"events\":5,\"messages\":1,\"nokey\":{\"fragment\":0,\"header\":0,\"length\":0,\"link\":0,\"local\":0,\"other\":0,\
     \"short\":0,\"side\":0},\"unmatched\":0}\n",
 };
@@ -99,13 +118,31 @@ const CAPTURE: Case = Case {
         obsolete: 1,
         other: 0,
     },
+    dropped: &[
+        Drops {
+            label: "ca",
+            dropped: Dropped {
+                interface: 5,
+                system: 2,
+            },
+        },
+        Drops {
+            label: "cb",
+            dropped: Dropped {
+                interface: 1,
+                system: 0,
+            },
+        },
+    ],
     groups: &[Group {
         key: "udp 10.0.0.1:5000 10.0.0.2:6000 id 0 length 8 payload -",
         sends: &["ca#3", "ca#4"],
         receives: &["cb#2", "cb#3"],
     }],
     line: "{\"ambiguous\":[{\"key\":\"udp 10.0.0.1:5000 10.0.0.2:6000 id 0 length 8 payload -\",\"receives\":[\"cb#2\",\
-    \"cb#3\"],\"sends\":[\"ca#3\",\"ca#4\"]}],\"consistent\":true,\"events\":11,\"messages\":2,\
+    \"cb#3\"],\"sends\":[\"ca#3\",\"ca#4\"]}],\"consistent\":true,\
+    \"dropped\":[{\"interface\":5,\"label\":\"ca\",\"system\":2},{\"interface\":1,\"label\":\"cb\",\"system\":0}],\
+    \"events\":11,\"messages\":2,\
     \"nokey\":{\"fragment\":1,\"header\":0,\"length\":0,\"link\":0,\"local\":0,\"other\":1,\"short\":0,\"side\":0},\
     \"passed\":{\"obsolete\":1,\"other\":0,\"simple\":0},\"unmatched\":1}\n",
 };
@@ -130,6 +167,7 @@ const ESCAPES: Case = Case {
         obsolete: 4294967296,
         other: 70,
     },
+    dropped: &[],
     groups: &[Group {
         key: "log \"q\\/'~",
         sends: &["z.log_1-x#1"],
@@ -158,6 +196,7 @@ const GROUPS: Case = Case {
         local: 4,
     },
     passed: NONE_PASSED,
+    dropped: &[],
     groups: &[
         Group {
             key: "log b",
@@ -229,6 +268,17 @@ fn groups_of(alloc: Global, groups: &[Group]) -> Result<Vec<NamedGroup>, AllocEr
     Ok(named)
 }
 
+fn drops_of(alloc: Global, labels: &[Drops]) -> Result<Vec<LabelDrops>, AllocError> {
+    let mut drops = Vec::new(alloc);
+    for one in labels {
+        drops.push(LabelDrops {
+            label: Name::new(one.label.as_bytes()).ok_or(AllocError)?,
+            dropped: one.dropped,
+        })?;
+    }
+    Ok(drops)
+}
+
 fn line_of(alloc: Global, case: &Case) -> Result<Vec<u8>, AllocError> {
     let view = View {
         events: case.events,
@@ -237,6 +287,7 @@ fn line_of(alloc: Global, case: &Case) -> Result<Vec<u8>, AllocError> {
         consistent: case.consistent,
         nokeys: case.nokeys,
         passed: case.passed,
+        dropped: drops_of(alloc, case.dropped)?,
         groups: groups_of(alloc, case.groups)?,
     };
     report_line(alloc, &view)

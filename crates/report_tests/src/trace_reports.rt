@@ -228,7 +228,14 @@ fn packets_of(alloc: Global, frames: &[Frame]) -> Option<Vec<Packet>> {
         let stamp = Nano::new(100)?;
         let bytes = Vec::from_slice(alloc, frame).ok()?;
         let link = *link;
-        packets.push(Packet { stamp, link, bytes }).ok()?;
+        let original_length = 60;
+        let packet = Packet {
+            stamp,
+            link,
+            original_length,
+            bytes,
+        };
+        packets.push(packet).ok()?;
     }
     Some(packets)
 }

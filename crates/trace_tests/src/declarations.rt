@@ -16,6 +16,7 @@ pub(crate) struct Wanted {
     pub(crate) links: &'static [(u32, u32, u64, Option<u64>)],
     pub(crate) payload_bytes: u8,
     pub(crate) tcp_options: bool,
+    pub(crate) fragments: bool,
     pub(crate) source: Option<u32>,
 }
 
@@ -28,6 +29,7 @@ pub(crate) const NOTHING: Wanted = Wanted {
     links: &[],
     payload_bytes: 0,
     tcp_options: false,
+    fragments: false,
     source: None,
 };
 
@@ -117,6 +119,7 @@ pub(crate) fn says(alloc: Global, text: &str, wanted: &Wanted) -> bool {
                 && are_links(&decl, wanted)
                 && decl.payload_bytes == wanted.payload_bytes
                 && decl.tcp_options == wanted.tcp_options
+                && decl.fragments == wanted.fragments
                 && decl.source == wanted.source
         }
         Err(_) => false,
@@ -173,11 +176,12 @@ const WHOLE_SAYS: Wanted = Wanted {
     ],
     payload_bytes: 16,
     tcp_options: true,
+    fragments: false,
     source: Some(1),
 };
 
 const SHORT: &str =
-    "\u{feff}payload_bytes = 0x40\r\ntcp_options = false\r\nhosts = { Z = {}, a = { addresses = ['1.2.3.4'] } } # two\r\nlinks = []\r\n\
+    "\u{feff}payload_bytes = 0x40\r\ntcp_options = false\r\nfragments = true\r\nhosts = { Z = {}, a = { addresses = ['1.2.3.4'] } } # two\r\nlinks = []\r\n\
     labels.l = { kind = 'log', host = 'Z' }\r\n";
 
 const SHORT_SAYS: Wanted = Wanted {
@@ -189,6 +193,7 @@ const SHORT_SAYS: Wanted = Wanted {
     links: &[],
     payload_bytes: 64,
     tcp_options: false,
+    fragments: true,
     source: None,
 };
 
@@ -206,7 +211,7 @@ fn lawful(rt: HostRuntime) {
 }
 
 // Declarations with their first faults.
-const FAULTS: [(&str, u32, Section, u32); 77] = [
+const FAULTS: [(&str, u32, Section, u32); 78] = [
     ("hosts = ", 1, Section::Top, 0),
     ("x = 1\nx = 2", 1, Section::Top, 0),
     ("\u{feff}\u{feff}", 1, Section::Top, 0),
@@ -218,6 +223,7 @@ const FAULTS: [(&str, u32, Section, u32); 77] = [
     ("links = {}", 3, Section::Top, 0),
     ("payload_bytes = 1.0", 3, Section::Top, 0),
     ("tcp_options = 1", 3, Section::Top, 0),
+    ("fragments = [true]", 3, Section::Top, 0),
     (
         "tcp_options = 'true'\npayload_bytes = 65",
         3,

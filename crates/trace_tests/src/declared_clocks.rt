@@ -33,6 +33,7 @@ const STEPPED_SAYS: Wanted = Wanted {
     links: &[],
     payload_bytes: 0,
     tcp_options: false,
+    fragments: false,
     source: Some(1),
 };
 

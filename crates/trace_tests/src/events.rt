@@ -105,7 +105,12 @@ fn event_of(alloc: Global, declaration: &str, host: u32, link: u16, frame: &[u8]
     let mut bytes = Vec::new(alloc);
     bytes.extend_from_slice(frame).ok()?;
     let stamp = Nano::new(100)?;
-    let packet = Packet { stamp, link, bytes };
+    let packet = Packet {
+        stamp,
+        link,
+        original_length: 60,
+        bytes,
+    };
     let packets = Vec::from_array(alloc, [packet]).ok()?;
     let mut events = packet_events(alloc, &decl, host, &packets).ok()?;
     events.pop()

@@ -169,6 +169,7 @@ fn is_refused(link: u16, frame: &[u8], payload_bytes: u8, wanted: Reason) -> boo
     let fields = headers::Wanted {
         payload_bytes,
         tcp_options: false,
+        fragments: false,
     };
     match decode(link, frame, fields) {
         Ok(_) => false,
@@ -541,6 +542,7 @@ fn has_transport(transport: &Transport, wanted: &Wanted) -> bool {
     match transport {
         Transport::Tcp(segment) => is_segment(segment, wanted),
         Transport::Udp(datagram) => is_datagram(datagram, wanted),
+        Transport::Fragment(_) => false,
     }
 }
 
@@ -551,6 +553,7 @@ fn is_keyed(link: u16, frame: &[u8], payload_bytes: u8, wanted: &Wanted) -> bool
     let fields = headers::Wanted {
         payload_bytes,
         tcp_options: false,
+        fragments: false,
     };
     match decode(link, frame, fields) {
         Ok(key) => has_network(key.network, wanted) && has_transport(&key.transport, wanted),

@@ -62,7 +62,7 @@ const CUT: [(&str, &[u8]); 5] = [
 fn has_options(key: &PacketKey, told: &[u8]) -> bool {
     match &key.transport {
         Transport::Tcp(segment) => segment.options.as_slice() == told,
-        Transport::Udp(_) => false,
+        Transport::Udp(_) | Transport::Fragment(_) => false,
     }
 }
 
@@ -71,6 +71,7 @@ fn is_told(datagram: &[u8], tcp_options: bool, told: &[u8]) -> bool {
     let wanted = Wanted {
         payload_bytes: 0,
         tcp_options,
+        fragments: false,
     };
     match decode(101, datagram, wanted) {
         Ok(key) => has_options(&key, told),
@@ -82,6 +83,7 @@ fn is_cut(datagram: &[u8]) -> bool {
     let wanted = Wanted {
         payload_bytes: 0,
         tcp_options: true,
+        fragments: false,
     };
     match decode(101, datagram, wanted) {
         Ok(_) => false,

@@ -1,0 +1,119 @@
+// The least widenings of other numbers than greatest delays, and of those of one clock or link.
+ghost use Rattle.std.specs.Prelude.{◌≡◌, ◌<◌, IfOk};
+ghost use Rattle.widen.specs.Widening.{IsWideningOf};
+
+use atto::Steps;
+use cert_check::{Answer, Clocks, Links, What};
+use ports::MemSink;
+use problem::{Problem, read_problem};
+use std::alloc::{AllocError, Global};
+use std::marker::Brand;
+use std::sync::ledger::{Blank, Ledger};
+use std::test::*;
+use widen::{Widening, judge_text, least_widening, write_widening};
+
+// Both messages and the 50 ns between them take 95 ns by the clock a, and 90 ns at most by what is declared.
+const LACKS_5: &str =
+    "problem 1\nclock a 0 0 0 0\nclock b 0 0 0 0\nevent a#1 a 100\nevent a#2 a 195\nevent b#1 b 250\nevent b#2 b 300\n\
+    message a#1 b#1 10 20\nmessage b#2 a#2 10 20\nend\n";
+
+// A message takes 20 ns at least between events that are 10 ns apart.
+const APART: &str =
+    "problem 1\nclock c 0 0 0 0\nevent p c 0\nevent q c 10\nmessage p q 20 none\nend\n";
+
+// It seems to arrive 10 ns before it is sent.
+const BEFORE: &str =
+    "problem 1\nclock c 0 0 0 0\nevent p c 10\nevent q c 0\nmessage p q 20 none\nend\n";
+
+// What is widened of which problem, and by how much at least.
+const FOUND: [(&str, What, Option<u64>); 18] = [
+    (LACKS_5, What::Delays(Links::All), Some(3)),
+    (
+        LACKS_5,
+        What::Delays(Links::Between { from: 0, to: 1 }),
+        Some(5),
+    ),
+    (
+        LACKS_5,
+        What::Delays(Links::Between { from: 1, to: 0 }),
+        Some(5),
+    ),
+    (
+        LACKS_5,
+        What::Delays(Links::Between { from: 0, to: 0 }),
+        None,
+    ),
+    (LACKS_5, What::Least(Links::All), None),
+    // Four stamps count 4 e.
+    (LACKS_5, What::Stamps(Clocks::All), Some(2)),
+    (LACKS_5, What::Stamps(Clocks::One(0)), Some(3)),
+    (LACKS_5, What::Stamps(Clocks::One(1)), Some(3)),
+    // A span of 95 ns and one of 50 count 145 e parts per billion: 5,000,000,000 in 145 are 34,482,758.6.
+    (LACKS_5, What::Rates(Clocks::All), Some(34_482_759)),
+    (LACKS_5, What::Rates(Clocks::One(0)), Some(52_631_579)),
+    (LACKS_5, What::Rates(Clocks::One(1)), Some(100_000_000)),
+    (APART, What::Delays(Links::All), None),
+    (APART, What::Least(Links::All), Some(10)),
+    (
+        APART,
+        What::Least(Links::Between { from: 0, to: 0 }),
+        Some(10),
+    ),
+    (APART, What::Stamps(Clocks::One(0)), Some(5)),
+    // The clock runs half as fast as real time, which is as slow as a rate allows.
+    (APART, What::Rates(Clocks::One(0)), Some(1_000_000_000)),
+    // A least delay is not below 0, and a span never the other way round.
+    (BEFORE, What::Least(Links::All), None),
+    (BEFORE, What::Rates(Clocks::All), None),
+];
+
+// The least widening of a problem, with its steps counted by this ledger.
+fn found_counted<L: Ledger>(
+    alloc: Global,
+    p: &Problem,
+    what: What,
+    blank: Blank,
+) -> Result<Widening, AllocError>
+    requires { (blank.name ≡ L.name) × (blank.parts ≡ L.parts) × (0 < L.parts) }
+    ensures { IfOk result (λ w. IsWideningOf p.now w) }
+{
+    let mut steps = Steps::<L>::open(blank);
+    least_widening(alloc, p, what, &mut steps)
+}
+
+// By how much it is widened.
+fn extra_of(w: &Widening) -> Option<u64> {
+    match w {
+        Widening::Least { extra, .. } => Some(extra.get()),
+        Widening::Never(_) => None,
+    }
+}
+
+// Whether the text of a widening is judged yes.
+fn is_true(alloc: Global, p: &Problem, what: What, w: &Widening) -> bool
+    requires { IsWideningOf p.now w.now }
+{
+    let Ok(mut out) = MemSink::new(alloc, 4096, 512, &[]) else {
+        return false;
+    };
+    write_widening(p, w, &mut out).is_ok()
+        && judge_text(alloc, p, what, out.bytes()) == Ok(Answer::Yes)
+}
+
+// Whether so much is the least widening of a problem, and its text is judged yes.
+fn is_found(alloc: Global, problem: &str, what: What, wanted: Option<u64>) -> bool {
+    let Ok(p) = read_problem(alloc, problem.as_bytes()) else {
+        return false;
+    };
+    match found_counted::<Brand>(alloc, &p, what, Blank::new(1)) {
+        Ok(w) => extra_of(&w) == wanted && is_true(alloc, &p, what, &w),
+        Err(_) => false,
+    }
+}
+
+#[test]
+fn least_widenings_of_each_kind_are_found(rt: HostRuntime) {
+    for (problem, what, wanted) in &FOUND {
+        assert!(rt; is_found(rt.alloc(), problem, *what, *wanted), "{problem}");
+    }
+}
