@@ -42,6 +42,15 @@ event b#1 a2 200
 message a#1 b#1 10 20
 message b#1 a#1 0 none
 end"""
+BLAMES = """blame delays none
+blame least none
+blame stamps 24 ns
+blame rates 1000000000 ppb
+blame stamps a1 4611686018427387903 ns
+blame rates a1 none
+blame stamps none none
+blame rates none 1 ppb
+end"""
 REPORT = '{"ambiguous":[],"consistent":true,"events":0,"messages":0,"nokey":{"local":0},"unmatched":0}'
 REPLIES: Dict[str, str] = {
     "report": REPORT,
@@ -69,7 +78,19 @@ REPLIES: Dict[str, str] = {
 PROGRAM = f"""#!{sys.executable} -IB
 import os, sys, time
 REPLIES = {REPLIES!r}
-if os.environ.get("STAND_IN") == "deaf":
+STAND_IN = os.environ.get("STAND_IN")
+if sys.argv[1] == "blame":
+    if STAND_IN == "old":
+        print("usage: tracesync solve PROBLEM | session DECL")
+        sys.exit(2)
+    if STAND_IN == "forgetful":
+        sys.exit(9)
+    if open(sys.argv[2]).read() != {PROBLEM!r} + "\\n":
+        print("problem 1 1")
+        sys.exit(4)
+    print("blame none" if STAND_IN == "healed" else {BLAMES!r})
+    sys.exit()
+if STAND_IN == "deaf":
     import signal
     signal.signal(signal.SIGINT, signal.SIG_IGN)
 said = open(sys.argv[2]).read() if os.path.isfile(sys.argv[2]) else None
@@ -92,7 +113,7 @@ for line in sys.stdin:
         print(f"kept {{line[6:]}}", flush=True)
     else:
         print(REPLIES.get(line, "refused 20"), flush=True)
-if os.environ.get("STAND_IN") == "deaf":
+if STAND_IN == "deaf":
     time.sleep(1000)
 """
 

@@ -12,7 +12,7 @@ from unittest import mock
 
 import tracesync
 from standing_in import CYCLE, HOSTS, PROBLEM, PROOF, StandingIn
-from tracesync import Contradiction, DeclarationRefused, Ended, Interval, Order, Refused, Session
+from tracesync import Contradiction, DeclarationRefused, Ended, Interval, NoProgram, Order, Problem, Refused, Session
 
 
 class Answers(StandingIn):
@@ -66,6 +66,25 @@ class Answers(StandingIn):
         found = self.session().problem()
         self.assertEqual((found.text, found.clocks["a1"].late, found.follows), (f"{PROBLEM}\n", 4, {("a1", "a2"): 5}))
         self.assertEqual((found.events["b#1"].stamp, found.messages["b#1", "a#1"].most), (200, None))
+
+    def test_what_is_to_blame(self) -> None:
+        session = self.session()
+        found = session.blame()
+        self.assertEqual(found[:2], [("delays", None, None, "ns"), ("least", None, None, "ns")])
+        self.assertEqual(found[2:4], [("stamps", None, 24, "ns"), ("rates", None, 10**9, "ppb")])
+        self.assertEqual(found[4:6], [("stamps", "a1", 2**62 - 1, "ns"), ("rates", "a1", None, "ppb")])
+        # (a clock may have this name, too)
+        self.assertEqual(found[6:], [("stamps", "none", None, "ns"), ("rates", "none", 1, "ppb")])
+        self.assertEqual(session.problem().blame(self.program), found)
+        with mock.patch.dict(os.environ, TRACESYNC=self.program):
+            self.assertEqual(session.problem().blame(), found)
+        with mock.patch.dict(os.environ, STAND_IN="healed"):
+            self.assertEqual(session.blame(), [])
+
+    def test_blame_is_of_the_program_of_the_session(self) -> None:
+        with Session("hosts.toml", "./program") as session, mock.patch.dict(os.environ, TRACESYNC="nosuch"):
+            os.chdir("/")
+            self.assertEqual(len(session.blame()), 8)
 
     def test_keeping_and_reports(self) -> None:
         session = self.session()
@@ -127,6 +146,19 @@ class Refusals(StandingIn):
             self.assertIn(wanted, caught.exception.words)
             with self.assertRaisesRegex(ValueError, "the session has ended"):
                 session.report()
+
+    def test_a_session_goes_on_where_nothing_can_be_blamed(self) -> None:
+        session = self.session()
+        with mock.patch.dict(os.environ, STAND_IN="old"):
+            with self.assertRaisesRegex(NoProgram, "/program is too old: it has no command `blame`"):
+                session.blame()
+        with mock.patch.dict(os.environ, STAND_IN="forgetful"):
+            with self.assertRaises(Ended) as caught:
+                session.blame()
+        self.assertEqual((caught.exception.status, caught.exception.lines), (9, []))
+        with self.assertRaisesRegex(Ended, "the program ended with status 4: problem 1 1"):
+            Problem().blame(self.program)
+        self.assertEqual(session.keep("a#1"), 3)
 
     def test_all_exceptions_are_of_one_kind_and_go_from_process_to_process(self) -> None:
         cases = (

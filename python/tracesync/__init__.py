@@ -11,21 +11,22 @@ Times are whole attoseconds (1e-18 s, or 1e-9 ns), or fractions of ns where a na
 is None. What goes wrong is a `TracesyncError`:
 
 - `Refused`: a line was refused, with its number and words; all is as it was before it;
-- `Contradiction`: what was added contradicts the declaration, with the certificate that shows it;
+- `Contradiction`: what was added contradicts the declaration, with the certificate that shows it; `blame` says by how
+  much what must be wider;
 - `DeclarationRefused`, `NoProgram`, `Ended`: there is no session, or none any more.
 """
 
 from .certificates import Certificate, Cycle, Proof, Step
 from .errors import Contradiction, DeclarationRefused, Ended, NoProgram, Refused, TracesyncError
 from .numbers import Interval
-from .problems import Clock, Delay, Problem, Stamped
+from .problems import Blame, Clock, Delay, Problem, Stamped
 from .program import find_program
 from .replies import Added, Order, Report
 from .session import Session
 from .timelines import Merge, MergedEvent, Times
 
 __all__ = [
-    "Added", "Certificate", "Clock", "Contradiction", "Cycle", "DeclarationRefused", "Delay", "Ended", "Interval",
-    "Merge", "MergedEvent", "NoProgram", "Order", "Problem", "Proof", "Refused", "Report", "Session", "Stamped", "Step",
-    "Times", "TracesyncError", "find_program",
+    "Added", "Blame", "Certificate", "Clock", "Contradiction", "Cycle", "DeclarationRefused", "Delay", "Ended",
+    "Interval", "Merge", "MergedEvent", "NoProgram", "Order", "Problem", "Proof", "Refused", "Report", "Session",
+    "Stamped", "Step", "Times", "TracesyncError", "find_program",
 ]  # fmt: skip

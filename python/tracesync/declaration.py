@@ -32,7 +32,7 @@ CAUSES = {
 NUMBERS = ("short", "long", "early", "late")
 HOST, CLOCK = {*NUMBERS, "addresses", "addresses6", "clocks"}, {*NUMBERS, "name", "gap"}
 LABEL, LINK = {"host", "kind", "clock"}, {"from", "to", "least", "most"}
-TOP = {"hosts", "labels", "links", "payload_bytes", "source", "tcp_options"}
+TOP = {"fragments", "hosts", "labels", "links", "payload_bytes", "source", "tcp_options"}
 ADDRESS = re.compile(r"(0|[1-9]\d{0,2})(\.(0|[1-9]\d{0,2})){3}")
 ADDRESS6 = re.compile(r"[0-9a-fA-F]{1,4}(:[0-9a-fA-F]{1,4}){7}")
 # A declared rate of so few ppb is a slip mostly: a quartz is off by 1 ppm at least.
@@ -180,6 +180,7 @@ def told_declaration(value: Table) -> list[str]:
         lines.append(f"`time` tells when an event was by the clock {value['source']}.")
     if any(it.get("kind") == "capture" for it in labels.values()):
         lines.append(f"{value.get('payload_bytes', 0)} bytes of the payload are part of what a packet is known by{', and timestamps and SACK of TCP' if value.get('tcp_options') else ''}.")
+        lines += ["Fragments have keys of their own, and packets of IPv6 behind extension headers have keys."] if value.get("fragments") else []
     return lines
 
 

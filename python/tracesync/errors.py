@@ -11,6 +11,7 @@ from .numbers import short_ns
 STATUSES = {
     2: "the words are no command of this program",
     3: "the declaration is refused",
+    4: "the text of the problem is refused",
     7: "a file is not there, or a read failed",
     8: "a write failed",
     9: "memory ran out, or so the program says",
@@ -24,7 +25,10 @@ class TracesyncError(Exception):
 
 
 class NoProgram(TracesyncError):
-    """There is no program to run: TRACESYNC names none, none is on the PATH, and none is built beside the package."""
+    """There is no program to run: TRACESYNC names none, none is on the PATH, and none is built beside the package.
+
+    Or there is one, and it is too old for what is asked.
+    """
 
 
 class Ended(TracesyncError):
@@ -96,7 +100,7 @@ class Refused(TracesyncError):
 class Contradiction(TracesyncError):
     """What was added contradicts the declaration: there is no execution, and so no answer.
 
-    `problem`, `report`, `keep` and `add` go on; what is added later may take the contradiction away.
+    `problem`, `blame`, `report`, `keep` and `add` go on; what is added later may take the contradiction away.
 
     >>> from tracesync import Session
     >>> with Session("examples/session/hosts.toml") as session:

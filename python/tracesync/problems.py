@@ -1,10 +1,14 @@
-"""The problem of a session: all that is declared and known, from which every answer follows."""
+"""The problem of a session: all that is declared and known, from which every answer follows; and what heals it."""
 
 from __future__ import annotations
 
 from collections.abc import Iterable
 from dataclasses import dataclass, field
-from typing import NamedTuple, Optional
+from typing import Literal, NamedTuple, Optional, cast
+
+from .program import run_over
+
+What = Literal["delays", "least", "stamps", "rates"]
 
 
 class Clock(NamedTuple):
@@ -34,6 +38,19 @@ class Delay(NamedTuple):
     most: Optional[int]
 
 
+class Blame(NamedTuple):
+    """By how much bounds of one kind must be wider at least, so that by this alone nothing contradicts any more."""
+
+    what: What
+    """All greatest delays, all least delays, what stamps may be early and late, or `short` and `long` of rates."""
+    clock: Optional[str]
+    """The one clock whose stamps or whose rate is meant; None where those of all clocks are, and of delays."""
+    least: Optional[int]
+    """The least widening by which that is so; with 1 less something contradicts. None where there is no such one."""
+    unit: Literal["ns", "ppb"]
+    """What it is counted in: ns, or of rates parts per billion."""
+
+
 @dataclass
 class Problem:
     """A problem by its parts, each by its names, and the lines of its text.
@@ -56,8 +73,27 @@ class Problem:
 
     @property
     def text(self) -> str:
-        """The text of the problem, as the commands `verify`, `ends`, `solve` and `widen` of the program read it."""
+        """The text of the problem, as the commands `verify`, `ends`, `solve` and `blame` of the program read it."""
         return "".join(f"{line}\n" for line in self.lines)
+
+    def blame(self, program: Optional[str] = None) -> list[Blame]:
+        """Returns by how much each kind of bounds must be wider at least to heal by itself; [] if nothing contradicts.
+
+        They are all greatest delays, all least delays, all stamps and all rates; then stamps and rates of each clock.
+        Widenings are whole ns, and of rates parts per billion. `program` is found as a session finds it if not said.
+
+        Raises `NoProgram` where there is none, or where it is too old and has no command `blame`, and `Ended` where it
+        ends in place of an answer.
+
+        >>> from tracesync import Session
+        >>> with Session("examples/session/hosts.toml") as session:
+        ...     added = session.add("web", "examples/session/web.csv")
+        ...     added = session.add("db", "examples/session/db-slow.csv")
+        ...     problem = session.problem()
+        >>> problem.blame()[2]
+        Blame(what='stamps', clock=None, least=2496, unit='ns')
+        """
+        return read_blames(run_over("blame", self.text, program))
 
 
 def read_problem(lines: Iterable[str]) -> Problem:
@@ -75,3 +111,23 @@ def read_problem(lines: Iterable[str]) -> Problem:
             most = None if words[4] == "none" else int(words[4])
             found.messages[words[1], words[2]] = Delay(int(words[3]), most)
     return found
+
+
+def read_blames(lines: list[str]) -> list[Blame]:
+    """Returns what `blame` prints of a problem; nothing where it has an execution.
+
+    >>> read_blames(["blame least none", "blame rates web 104320000 ppb", "end"])[1]
+    Blame(what='rates', clock='web', least=104320000, unit='ppb')
+    >>> read_blames(["blame none"])
+    []
+    """
+    return [] if lines == ["blame none"] else [read_blame(it.split(" ")[1:]) for it in lines[:-1]]
+
+
+def read_blame(words: list[str]) -> Blame:
+    """Returns what the words of a line behind `blame` say."""
+    # (a clock may have the name `none`, and the last word says whether anything heals)
+    has_least = words[-1] != "none"
+    named = words[1 : -2 if has_least else -1]
+    least = int(words[-2]) if has_least else None
+    return Blame(cast(What, words[0]), named[0] if named else None, least, "ppb" if words[0] == "rates" else "ns")

@@ -18,6 +18,8 @@ from .replies import ENDS, is_last
 TOP = os.path.dirname(os.path.dirname(os.path.dirname(os.path.realpath(__file__))))
 # For so many seconds a program whose input has ended may go on before it is ended by a signal.
 PATIENCE = 2.0
+# With this status the program ends where it does not know the command.
+UNKNOWN = 2
 
 
 def built_program() -> str:
@@ -43,11 +45,24 @@ def find_program() -> str:
     raise NoProgram(f"no tracesync is on the PATH, and none is built as {built_program()}: TRACESYNC names another one")
 
 
-def run(words: list[str], program: Optional[str] = None) -> tuple[list[str], int]:
-    """Returns the lines that the program prints for these words, and its status. It has no input."""
-    command = [program or find_program(), *words]
-    ran = subprocess.run(command, stdin=subprocess.DEVNULL, stdout=subprocess.PIPE, text=True)
+def run(words: list[str], program: Optional[str] = None, text: str = "") -> tuple[list[str], int]:
+    """Returns the lines that the program prints for these words, and its status. The text is its input."""
+    ran = subprocess.run([program or find_program(), *words], input=text, stdout=subprocess.PIPE, text=True)
     return ran.stdout.splitlines(), ran.returncode
+
+
+def run_over(command: str, text: str, program: Optional[str] = None) -> list[str]:
+    """Returns the lines that a command prints over the text of a problem.
+
+    Raises NoProgram where the program does not know the command, and Ended where its status is another one than 0.
+    """
+    program = program or find_program()
+    lines, status = run([command, "/dev/stdin"], program, text)
+    if status == UNKNOWN:
+        raise NoProgram(f"{program} is too old: it has no command `{command}`")
+    if status:
+        raise Ended(lines, status)
+    return lines
 
 
 def end(process: subprocess.Popen[bytes], at_once: bool = False) -> int:
@@ -74,9 +89,13 @@ class LineSession:
     `program` is its path, `find_program()` if it is not said. One that is `apart` gets no signal of a terminal's keys.
     """
 
+    program: str
+    """The program, which stays the same one where the folder changes."""
+
     def __init__(self, declaration: str, program: Optional[str] = None, apart: bool = False) -> None:
-        words = [program or find_program(), "session", declaration]
-        pipe = subprocess.PIPE
+        found = program or find_program()
+        self.program = os.path.abspath(found) if os.path.dirname(found) else found
+        words, pipe = [self.program, "session", declaration], subprocess.PIPE
         self._process = subprocess.Popen(words, stdin=pipe, stdout=pipe, start_new_session=apart)
         self._lock = threading.Lock()
         # (this runs once: when it is called, when nothing refers to this object any more, or when Python ends)

@@ -115,6 +115,14 @@ class PassedOver(TypedDict):
     simple: int
 
 
+class Dropped(TypedDict):
+    """How many packets the pcapng of a label counts as dropped: by its interfaces, and by the system."""
+
+    interface: int
+    label: str
+    system: int
+
+
 class _EachReport(TypedDict):
     """What every report has."""
 
@@ -129,7 +137,9 @@ class _EachReport(TypedDict):
 class Report(_EachReport, total=False):
     """What was matched and what was not: a dictionary, as `report` prints it in JSON.
 
-    It has `passed` only where packets were passed over, under whichever label.
+    It has `passed` only where packets were passed over, under whichever label, and `dropped` only where some were
+    dropped: an entry for each such label.
     """
 
+    dropped: List[Dropped]
     passed: PassedOver

@@ -13,7 +13,7 @@ from .certificates import Cycle, Proof, read_cycle
 from .declaration import read_declaration, refused
 from .errors import Contradiction, DeclarationRefused, Ended, Refused
 from .numbers import Interval, read_interval
-from .problems import Problem, read_problem
+from .problems import Blame, Problem, read_problem
 from .program import LineSession
 from .refusals import CAUSES, Refusals
 from .replies import Added, Order, Report, read_added
@@ -221,6 +221,24 @@ class Session:
         Stamped(clock='web', stamp=5300000)
         """
         return read_problem(self._ask("problem"))
+
+    def blame(self) -> list[Blame]:
+        """Returns by how much each kind of bounds must be wider at least to heal by itself; [] if nothing contradicts.
+
+        They are all greatest delays, all least delays, all stamps and all rates; then stamps and rates of each clock.
+        Widenings are whole ns, and of rates parts per billion. The problem is given to another process, and the session
+        goes on however that ends. Raises `NoProgram` where the program is too old and has no command `blame`.
+
+        >>> with Session("examples/session/hosts.toml") as session:
+        ...     added = session.add("web", "examples/session/web.csv")
+        ...     added = session.add("db", "examples/session/db-slow.csv")
+        ...     found = session.blame()
+        >>> found[2]
+        Blame(what='stamps', clock=None, least=2496, unit='ns')
+        >>> print(found[0].least)
+        None
+        """
+        return self.problem().blame(self._lines.program)
 
     def report(self) -> Report:
         """Returns what was matched and what was not, as a dictionary.

@@ -16,6 +16,8 @@ OBSOLETE, SIMPLE, NAMES, STATISTICS, JOURNAL, SECRETS = 2, 3, 4, 5, 9, 10
 COUNTED = (OBSOLETE, SIMPLE, PACKET, JOURNAL)
 UNCOUNTED = (int.from_bytes(SECTION, "big"), INTERFACE, NAMES, STATISTICS, SECRETS)
 CAPTURED_MOST = 262_144
+# Statistics of more bytes are passed over.
+STATISTICS_MOST = 1 << 24
 # Options of pcapng: of an interface its name, its addresses, what its times count and the seconds that are added to them, of a packet its
 # direction, and of statistics how many packets the interface and the system dropped; a count of all ones is not known.
 NAME, ADDRESS4, ADDRESS6, RESOLUTION, OFFSET, FLAGS = 2, 4, 5, 9, 14, 2
@@ -116,7 +118,7 @@ class Blocks:
                 self.interface(self.data[self.at : self.at + length - 4])
             elif kind == PACKET and length >= 32:
                 self.packet(self.data[self.at : self.at + length - 4])
-            elif kind == STATISTICS and length >= 24:
+            elif kind == STATISTICS and 24 <= length <= STATISTICS_MOST:
                 self.statistics(self.data[self.at : self.at + length - 4])
             self.at += length
         self.found.unit, self.found.dropped = self.found.unit or 1000, sum(self.dropped.values())
@@ -127,7 +129,7 @@ class Blocks:
         found, is_whole = options_of(self.order, data, at)
         if not is_whole:
             self.found.odd.append(f"the block at byte {self.at} has an option that is cut")
-        return found
+        return dict(reversed(found))
 
     def interface(self, block: bytes) -> None:
         options = self.options(block, 16)
@@ -154,25 +156,27 @@ class Blocks:
         self.found.packets.append(Packet(stamp, link, block[28 : 28 + captured], is_sent, number, frame))
 
     def statistics(self, block: bytes) -> None:
-        """Takes how many packets an interface dropped since its section began; nothing of a block that is cut or broken."""
+        """Takes how many packets an interface dropped since its section began, in place of what was told before; nothing of a
+        block that is cut or broken."""
         number, (options, is_whole) = struct.unpack_from(f"{self.order}I", block, 8)[0], options_of(self.order, block, 20)
         if number >= len(self.interfaces) or not is_whole:
             return
         for code in (BY_INTERFACE, BY_SYSTEM):
-            if len(options.get(code, b"")) == 8:
-                dropped, key = struct.unpack(f"{self.order}Q", options[code])[0], (self.section, number, code)
-                self.dropped[key] = max(dropped if dropped != UNKNOWN else 0, self.dropped.get(key, 0))
+            told = [struct.unpack(f"{self.order}Q", value)[0] for it, value in options if it == code and len(value) == 8]
+            known = [it for it in told if it != UNKNOWN]
+            if known:
+                self.dropped[self.section, number, code] = known[0]
 
 
-def options_of(order: str, data: bytes, at: int) -> tuple[dict[int, bytes], bool]:
-    """Returns the options from this place on, by code, of several with one code the first; and whether none is cut."""
-    found: dict[int, bytes] = {}
+def options_of(order: str, data: bytes, at: int) -> tuple[list[tuple[int, bytes]], bool]:
+    """Returns the options from this place on, each a code and a value, and whether none is cut."""
+    found: list[tuple[int, bytes]] = []
     while at + 4 <= len(data):
         code, length = struct.unpack_from(f"{order}HH", data, at)
         if code == 0:
             break
         if at + 4 + length > len(data):
             return found, False
-        found.setdefault(code, data[at + 4 : at + 4 + length])
+        found.append((code, data[at + 4 : at + 4 + length]))
         at += 4 + (length + 3) // 4 * 4
     return found, True

@@ -83,6 +83,8 @@ class Declaring:
                       f"payload_bytes = {count}",
                       "# Timestamps and selective acknowledgments of TCP are, too: a segment that is sent again has others.",
                       "tcp_options = true"]  # fmt: skip
+            if self.has_fragments():
+                lines += ["# Fragments have keys of their own, and packets of IPv6 behind extension headers have keys: there are some.", "fragments = true"]
         if self.source:
             what = "the measure, right or wrong" if self.reference else "a true one"
             lines += [f"# By this clock `time` tells when an event was. It was named on the command line as {what}.", f'source = "{self.source}"']
@@ -90,6 +92,11 @@ class Declaring:
             lines += ["# Is one of the clocks true (GPS, or ptp4l in step with one)? Then `time` can tell when an event was by it, with",
                       '# source = "ITS HOST" here, and short = 0 and long = 0 below.']  # fmt: skip
         return lines
+
+    def has_fragments(self) -> bool:
+        """Returns whether there are fragments, or extension headers of IPv6."""
+        found = (decode(packet.link, packet.data)[0] for it in self.captures for packet in it.content.packets)
+        return any(it is not None and it.is_apart for it in found)
 
     def payload_bytes(self) -> tuple[int, int, int]:
         """Returns how many bytes of the payload tell most packets apart, how many packets they do not, and how many are too short for them."""

@@ -12,6 +12,8 @@ Key = tuple[bytes | int | None, ...]
 ETHERNET, RAW, COOKED, COOKED2 = 1, 101, 113, 276
 IPV4, IPV6, ARP, TAGS = 0x0800, 0x86DD, 0x0806, (0x8100, 0x88A8)
 TCP, UDP = 6, 17
+# Headers that may stand between that of IPv6 and what a packet carries: options of hops, routing, a fragment, options of the target.
+EXTENSIONS = (0, 43, 44, 60)
 # Of a list of options of TCP its end, a byte that fills, and those that tell a segment from one that is sent again.
 END, NO_OPERATION, TELLING = 0, 1, (5, 8)
 # How a cooked header says that a packet went out, and that it came for this host.
@@ -37,6 +39,8 @@ class Headers:
     flags: int = 0
     sequence: int = 0
     acknowledged: int = 0
+    # Whether it is a fragment, or has extension headers: such a packet has a key only where `fragments` is declared.
+    is_apart: bool = False
 
 
 def frame(link: int, data: bytes) -> tuple[int, bytes, bool | None]:
@@ -61,14 +65,14 @@ def decode(link: int, data: bytes) -> tuple[Headers | None, bool | None]:
     if kind == IPV4 and len(data) >= 20 and data[0] >> 4 == 4:
         return decode4(data), is_sent
     if kind == IPV6 and len(data) >= 40 and data[0] >> 4 == 6:
-        found = Headers(6, data[8:24], data[24:40], data[6])
+        found = Headers(6, data[8:24], data[24:40], data[6], is_apart=data[6] in EXTENSIONS)
         return transport(found, data[40:], int.from_bytes(data[4:6], "big"), None), is_sent
     return None, is_sent
 
 
 def decode4(data: bytes) -> Headers:
     head, total, ident, fragment = 4 * (data[0] & 15), *struct.unpack_from(">HHH", data, 2)
-    found = Headers(4, data[12:16], data[16:20], data[9])
+    found = Headers(4, data[12:16], data[16:20], data[9], is_apart=bool(fragment & 0x3FFF))
     if fragment & 0x3FFF or head < 20 or total < head:
         return found
     return transport(found, data[head:], total - head, ident)

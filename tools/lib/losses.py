@@ -5,7 +5,7 @@ from collections import Counter
 from collections.abc import Collection, Iterable, Mapping
 
 from captures import Packet
-from headers import TCP, Headers, decode
+from headers import EXTENSIONS, TCP, Headers, decode
 from inputs import Input
 from words import count_text
 
@@ -17,8 +17,6 @@ FIN, SYN, RST, ACK = 1, 2, 4, 16
 NUMBERS, WINDOW_MOST = 1 << 32, 1 << 30
 # Where more stretches stand beyond a hole, it is begun anew.
 STRETCHES_MOST = 1000
-# Headers of IPv6 behind which a segment may stand that is not looked at: options of hops, routing, fragments, options of the target.
-EXTENSIONS = (0, 43, 44, 60)
 CURE = "A key may then join two packets that were never one message: capture again with a larger buffer (tcpdump -B 65536, dumpcap -B 64)."
 
 

@@ -104,6 +104,19 @@ class Headers(unittest.TestCase):
         for options in (b"\1\x08", b"\x08\0", b"\x08\1", b"\2\4\5"):
             self.assertIsNone(headers.telling(options), options.hex())
 
+    def test_fragments_and_extension_headers(self) -> None:
+        whole, six = making.udp("10.0.0.1", "10.0.0.2"), ("2001:db8::1", "2001:db8::2")
+        cases = {
+            whole: False,
+            whole[:6] + b"\x40\0" + whole[8:]: False,
+            whole[:6] + b"\x20\0" + whole[8:]: True,
+            whole[:6] + b"\0\1" + whole[8:]: True,
+            making.udp(*six): False,
+            **{making.ip(*six, it, b"\x11" + bytes(7) + making.udp(*six)[40:]): True for it in (0, 43, 44, 60)},
+        }
+        for datagram, wanted in cases.items():
+            self.assertIs(headers.decode(101, datagram)[0].is_apart, wanted, datagram.hex())
+
     def test_no_frame_makes_it_fail(self) -> None:
         for link in (0, 1, 101, 113, 276):
             for length in range(len(FRAME)):

@@ -161,11 +161,21 @@ class Text(unittest.TestCase):
         }  # fmt: skip
         self.assertEqual(found, wanted)
 
+    def test_fragments_are_declared_where_there_are_some(self) -> None:
+        whole = making.udp(A, B)
+        with tempfile.TemporaryDirectory() as room:
+            for field, wanted in ((b"\x40\0", False), (b"\x20\0", True)):
+                packets = ((1, making.framed(1, whole)), (2, making.framed(1, whole[:6] + field + whole[8:])))
+                with open(f"{room}/a.pcap", "wb") as it:
+                    it.write(making.classic(packets))
+                found, _, _ = self.declare(f"a={room}/a.pcap", f"b={room}/a.pcap", status=1)
+                self.assertEqual(found.get("fragments", False), wanted)
+
     def test_every_number_has_a_comment_before_it(self) -> None:
         _, _, text = self.declare("left=captures/left.pcap", "right=pcapng/right.pcapng")
         lines = text.splitlines()
         for at, line in enumerate(lines):
-            if line.split(" ")[0] in ("short", "early", "addresses", "payload_bytes", "tcp_options"):
+            if line.split(" ")[0] in ("short", "early", "addresses", "payload_bytes", "tcp_options", "fragments"):
                 self.assertTrue(lines[at - 1].startswith("#"), line)
 
     def test_logs_and_a_second_label_of_a_host(self) -> None:

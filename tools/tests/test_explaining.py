@@ -9,11 +9,11 @@ from xml.etree import ElementTree
 import making_captures as making
 from chain_picture import chain_svg
 from common import EXAMPLES
-from contradiction import Contradiction, told_cycle
+from contradiction import Contradiction, blame_lines, told_cycle
 from explaining import Explainer
 from tracesync import declaration
 from tracesync.certificates import read_cycle
-from tracesync.problems import read_problem
+from tracesync.problems import read_blames, read_problem
 from tracesync.replies import split_replies
 
 DECLARED = f"{EXAMPLES}/captures/hosts.toml"
@@ -161,6 +161,59 @@ class Contradictions(unittest.TestCase):
 
     def test_a_delay_below_0_mends_nothing(self) -> None:
         self.assertNotIn("less than its least", "\n".join(told_cycle(CYCLE.split("\n"))))
+
+
+class Blames(unittest.TestCase):
+    """What mends all that is contradicted, and which of it is likely."""
+
+    FIRST = "With any one of these alone nothing contradicts any more, and with 1 less something does (by `blame`); the likeliest first:"
+    ALL = ["delays 500 ns", "least none", "stamps 24 ns"]
+
+    def told(self, *lines: str) -> list[str]:
+        return blame_lines(read_blames([f"blame {it}" for it in lines] + ["end"]))
+
+    def test_the_likeliest_first(self) -> None:
+        told = self.told(*self.ALL, "rates 90000 ppb", "stamps web 30 ns", "rates web 100000 ppb", "stamps db none", "rates db 100001 ppb")
+        self.assertEqual(told, [
+            self.FIRST,
+            "  `short` and `long` of each clock greater by 90000 ppb", "  `short` and `long` of web's clock greater by 100000 ppb",
+            "  `early` and `late` of each clock greater by 24 ns", "  `early` and `late` of web's clock greater by 30 ns",
+            "  each `most` greater by 500 ns", "  `short` and `long` of db's clock greater by 100001 ppb",
+            "2 others would not do alone, however wide.",
+        ])  # fmt: skip
+        self.assertEqual(self.told("delays 5 ns", "least 7 ns")[1:], ["  each `least` less by 7 ns", "  each `most` greater by 5 ns"])
+
+    def test_what_is_less_likely_is_left_out(self) -> None:
+        told = self.told(*self.ALL, "rates 20000000 ppb", "stamps web 48 ns", "rates web 20000001 ppb", "stamps db 48 ns", "rates db 30000000 ppb")
+        self.assertEqual([it for it in told if "`long`" in it], ["  `short` and `long` of each clock greater by 20000000 ppb", "  `short` and `long` of web's clock greater by 20000001 ppb, as of a clock that was set"])
+        self.assertEqual((len(told), told[-1]), (8, "1 less likely one is left out; 1 other would not do alone, however wide."))
+        many = self.told(*self.ALL, "rates none", *(f"stamps c{it} {it + 48} ns" for it in range(65536)))
+        self.assertEqual((len(many), many[-1]), (8, "65532 less likely ones are left out; 2 others would not do alone, however wide."))
+
+    def test_all_clocks_where_one_needs_no_more(self) -> None:
+        told = self.told("delays none", "stamps 24 ns", "rates 9 ppb", "stamps web 24 ns", "rates web 10 ppb", "stamps db 48 ns", "rates db 9 ppb")
+        self.assertEqual([it.partition(" of ")[2] for it in told[1:-1]], ["db's clock greater by 9 ppb", "web's clock greater by 10 ppb", "web's clock greater by 24 ns", "db's clock greater by 48 ns"])
+
+    def test_what_none_mends(self) -> None:
+        self.assertEqual(self.told("delays none", "stamps none"), ["No bounds of one kind, however wide, mend all that is contradicted (by `blame`)."])
+        self.assertEqual(blame_lines(read_blames(["blame none"])), [])
+
+    def test_the_program_is_asked(self) -> None:
+        chain = told_cycle(CYCLE.split("\n"))
+        cases = (
+            ('test "$(cat "$2")" = "$PROBLEM" && printf "blame stamps 24 ns\\nend\\n"', [self.FIRST, "  `early` and `late` of each clock greater by 24 ns"]),
+            ("echo usage: tracesync widen PROBLEM; exit 2", []), ("exit 9", []),
+        )  # fmt: skip
+        with tempfile.TemporaryDirectory() as room:
+            for text, wanted in cases:
+                with open(f"{room}/program", "w", encoding="utf-8") as it:
+                    it.write(f"#!/bin/sh\nPROBLEM='{FOLLOWED}'\n{text}\n")
+                os.chmod(it.name, 0o755)
+                found = told_cycle(CYCLE.split("\n"), FOLLOWED.split("\n"), program=it.name)
+                self.assertEqual(found[-len(wanted) or len(found) :], wanted)
+                self.assertEqual(len(found) - len(wanted), len(chain))
+            self.assertEqual(len(told_cycle(CYCLE.split("\n"), FOLLOWED.split("\n"), program=f"{room}/nosuch")), len(chain))
+        self.assertEqual(len(told_cycle(CYCLE.split("\n"), FOLLOWED.split("\n"), program=None)), len(chain))
 
 
 class Declarations(unittest.TestCase):

@@ -59,6 +59,12 @@ class Statistics(unittest.TestCase):
         other = making.pcapng([(2, FRAME)], order=">") + making.statistics({7: 2}, order=">")
         self.assertEqual(read(one + other).dropped, 7)
 
+    def test_what_is_told_last_stands(self) -> None:
+        told = making.pcapng([(1, FRAME)]) + making.statistics({5: 5, 7: 4})
+        cases = (({5: 3}, 7), ({5: 0, 7: 0}, 0), ({4: 1}, 9), ({5: NUMBERS**2 - 1, 7: 6}, 11))
+        for later, wanted in cases:
+            self.assertEqual(read(told + making.statistics(later)).dropped, wanted, later)
+
     def test_what_is_cut_or_broken_is_passed_over(self) -> None:
         whole, told = making.pcapng([(1, FRAME)]), making.statistics({5: 3})
         cases = (making.block(5, told[8:20] + making.option(5, bytes(8))[:4]), making.block(5, told[8:20] + making.option(5, bytes(3) + b"\1")),

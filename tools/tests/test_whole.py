@@ -114,7 +114,7 @@ class Whole(unittest.TestCase):
         replies = self.session(f"{folder}/hosts.toml", "script")
         ran = self.run_tool("explain", "--script", "script", "--declaration", f"{folder}/hosts.toml", input=replies, status=1)
         self.assertEqual(ran.stdout, replies)
-        for wanted in ("too narrow by 9.981 us", "db#1: receive request-17", "(by `widen`)", "`nonsense` is no command"):
+        for wanted in ("too narrow by 9.981 us", "db#1: receive request-17", "(by `blame`)", "`nonsense` is no command"):
             self.assertIn(wanted, ran.stderr)
 
     def test_captures_of_any(self) -> None:
