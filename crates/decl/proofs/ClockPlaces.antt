@@ -1,5 +1,5 @@
 -- The places of clocks, by their names and by their hosts.
-use Rattle.std.proofs.Common.{◌≡◌, ◌≢◌, ℕ, zero, suc, ◌+◌, ◌<◌, ◌≤◌, ◌==◌, Bool, true, false, if◌then◌else◌, is_some, List, [], ◌∷◌, ◌++◌, length, length-append, map, slice_get, Option, Some, None, codes, eq-eqb, eqb-true, refl, sym, ap, ◌∙◌, subst, arith, append_assoc, inl, inr}
+use Rattle.std.proofs.Common.{◌≡◌, ◌≢◌, ℕ, zero, suc, ◌+◌, ◌<◌, ◌≤◌, ◌==◌, Bool, true, false, if◌then◌else◌, is_some, List, [], ◌∷◌, ◌++◌, length, length-append, map, slice_get, Option, Some, None, eq-eqb, eqb-true, refl, sym, ap, ◌∙◌, subst, arith, append_assoc, inl, inr}
 use Rattle.std.proofs.lemmas.List.{map-append}
 use Rattle.std.specs.List.{position, position_from}
 use Rattle.std.specs.Option.{option_or}
@@ -10,13 +10,11 @@ use Rattle.std.proofs.lemmas.Iterator.Adapters.{position_from-zero}
 use Rattle.std.proofs.lemmas.Slice.Eq.{bytes_eq-Decides}
 use Rattle.problem_model.specs.declared.items.Clock.{Clock}
 use Rattle.problem_model.specs.Limits.{most_clocks}
-use Rattle.toml.specs.Data.{Items, no_items, item}
-use Rattle.decl.specs.Clocks.{first_clock_place, is_taken, have_no_room, gaps_by, table_gaps}
-use Rattle.decl.specs.Hosts.{owned_by}
+use Rattle.toml.specs.Data.{Items, no_items, item, Members, no_members}
+use Rattle.decl.specs.Clocks.{first_clock_place, is_taken, have_no_room, owner_by, owners_by, table_owners}
 use Rattle.decl.specs.Inside.{IsTurnOf}
 use Rattle.decl.specs.Keys.{entry_table}
 use Rattle.decl.specs.Places.{clock_place}
-use Rattle.decl.specs.Values.{number_at}
 use Rattle.decl.specs.declared.items.Owner.{Owner}
 use Rattle.decl.proofs.Searching.{position_same}
 
@@ -155,19 +153,20 @@ moved owners o turn = record {
     here other same none = own (first_clock_place owners other) (0 + length owners) (rw (eq-eqb o.host other same) at none)
 
 -- clocks of a host give the next one its turn
-pub turn_moves : (owners : List Owner) (host gap : ℕ) (gaps : List ℕ) → IsTurnOf owners host → IsTurnOf (owners ++ owned_by host (gap ∷ gaps)) (host + 1)
-turn_moves owners host gap [] turn = moved owners (record { host = host; gap = gap }) turn
-turn_moves owners host gap (next ∷ gaps) turn =
-    let o : Owner = record { host = host; gap = gap } in
-    subst (λ (os : List Owner). IsTurnOf os (host + 1)) (append_assoc owners (o ∷ []) (owned_by host (next ∷ gaps))) (turn_moves (owners ++ o ∷ []) host next gaps (turn_stays owners o turn))
+pub turn_moves : (owners : List Owner) (place : ℕ) (host own : Members) (ds : Items) → IsTurnOf owners place → IsTurnOf (owners ++ owner_by place own host ∷ table_owners place host ds) (place + 1)
+turn_moves owners place host own no_items turn = moved owners (owner_by place own host) turn
+turn_moves owners place host own (item d ds) turn =
+    let o : Owner = owner_by place own host in
+    subst (λ (os : List Owner). IsTurnOf os (place + 1)) (append_assoc owners (o ∷ []) (table_owners place host (item d ds)))
+    (turn_moves (owners ++ o ∷ []) place host (entry_table d) ds (turn_stays owners o turn))
 
-pub turn_next : (owners new : List Owner) (host same : ℕ) (ds : Items) → same ≡ host → new ≡ owners ++ owned_by same (gaps_by ds) → IsTurnOf owners host → IsTurnOf new (host + 1)
-turn_next owners new host same ds e added turn =
-    subst (λ (os : List Owner). IsTurnOf os (host + 1)) (sym (added ∙ ap (λ (h : ℕ). owners ++ owned_by h (gaps_by ds)) e)) (go ds)
+pub turn_next : (owners new : List Owner) (place same : ℕ) (host : Members) (ds : Items) → same ≡ place → new ≡ owners ++ owners_by same host ds → IsTurnOf owners place → IsTurnOf new (place + 1)
+turn_next owners new place same host ds e added turn =
+    subst (λ (os : List Owner). IsTurnOf os (place + 1)) (sym (added ∙ ap (λ (p : ℕ). owners ++ owners_by p host ds) e)) (go ds)
   where
-    go : (items : Items) → IsTurnOf (owners ++ owned_by host (gaps_by items)) (host + 1)
-    go no_items = turn_moves owners host 0 [] turn
-    go (item d items) = turn_moves owners host (number_at (codes "gap") (entry_table d)) (table_gaps items) turn
+    go : (items : Items) → IsTurnOf (owners ++ owners_by place host items) (place + 1)
+    go no_items = turn_moves owners place host no_members no_items turn
+    go (item d items) = turn_moves owners place host (entry_table d) items turn
 
 -- ---- a book with a clock more
 

@@ -6,19 +6,18 @@ use Rattle.toml.specs.declared.value.Value.{Value}
 use Rattle.atto.specs.Span.{RateParts}
 use Rattle.problem_model.specs.declared.items.Clock.{Clock}
 use Rattle.decl.specs.Causes.{at, when, first, fault_of_entry, IsFirstOf}
-use Rattle.decl.specs.Clocks.{own_or_host, own_number, has_wild_rate, has_wild_number, has_wild_gap, rate_of, clock_by_name, clock_causes, name_in, is_taken, have_no_room, table_clocks, table_gaps, tables_causes, clocks_causes, clocks_by, gaps_by}
-use Rattle.decl.specs.Hosts.{owned_by}
+use Rattle.decl.specs.Clocks.{own_or_host, own_number, has_wild_rate, has_wild_number, has_wild_owner, rate_of, clock_by_name, owner_by, clock_causes, name_in, is_taken, have_no_room, table_clocks, table_owners, tables_causes, clocks_causes, clocks_by, owners_by}
 use Rattle.decl.specs.Keys.{table_causes, entry_causes, entry_table}
 use Rattle.decl.specs.Limits.{nano_limit}
 use Rattle.decl.specs.Names.{is_clock_name}
-use Rattle.decl.specs.Values.{is_up_to, whole_or_zero, number_at}
+use Rattle.decl.specs.Values.{is_up_to}
 use Rattle.decl.specs.declared.cause.Cause.{Cause}
 use Rattle.decl.specs.declared.cause.Cause.TheVariants.{Name, Number}
 use Rattle.decl.specs.declared.errors.DeclError.{DeclError}
 use Rattle.decl.specs.declared.errors.Section.TheVariants.{Hosts}
 use Rattle.decl.specs.declared.items.Owner.{Owner}
 use Rattle.decl.specs.declared.keys.Form.TheVariants as form
-use Rattle.decl.proofs.Faults.{some_if, some_unless, none_if, none_unless, no_parts, not_so, neither, neither_of, second_of, fault_at}
+use Rattle.decl.proofs.Faults.{some_if, some_unless, none_unless, no_parts, not_so, neither, neither_of, second_of, fault_at}
 
 three : {V : Type 0} (w a b : Bool) (made right : V) → w ≡ false → a ≡ true → b ≡ true → made ≡ right → Some made ≡ (if (w || not a) || not b then None else Some right)
 three w a b made right p q r e = rw (p, q, r) (ap Some e)
@@ -37,6 +36,10 @@ clock_made name own host rate early late p q r =
     let (first, early_is) = some_if _ early (own_number (codes "early") own host) q in
     let (second, late_is) = some_if _ late (own_number (codes "late") own host) r in
     three _ _ _ _ _ tame first second (same_clock name _ _ _ _ _ _ rate_is early_is late_is)
+
+-- a clock and its owner
+pub pair_of : {clock right : Clock} {owner whose : Owner} → clock ≡ right → owner ≡ whose → (let a : Clock × Owner = (clock, owner) in a) ≡ (right, whose)
+pair_of p q = rw (p, q) refl
 
 -- causes of a table, of a name and of numbers
 pub none_wrong : (t : List Cause) (n w : Bool) → t ≡ [] → n ≡ false → w ≡ false → t ++ when n Name ++ when w Number ≡ []
@@ -66,35 +69,32 @@ module _ (host own : Members) (before : List Clock) (name : List ℕ) (table : t
   pub table_wild : None ≡ (if has_wild_number own host then None else Some (clock_by_name name own host)) → first (clock_causes host before own) ≡ Some Number
   table_wild e =
       number_wrong _ _ _ table right_name
-      (first_of (has_wild_number own host || has_wild_gap own) _ (first_of (has_wild_number own host) _ (none_unless (has_wild_number own host) (clock_by_name name own host) e)))
+      (first_of (has_wild_number own host || has_wild_owner own host) _ (first_of (has_wild_number own host) _ (none_unless (has_wild_number own host) (clock_by_name name own host) e)))
 
-  -- the gap is
-  pub table_apart : None ≡ (if is_up_to (nano_limit - 1) (whole_or_zero (codes "gap") own) then Some (number_at (codes "gap") own) else None) → first (clock_causes host before own) ≡ Some Number
-  table_apart e =
+  -- the gap or the offset is
+  pub table_apart : (place : ℕ) → None ≡ (if has_wild_owner own host then None else Some (owner_by place own host)) → first (clock_causes host before own) ≡ Some Number
+  table_apart place e =
       number_wrong _ _ _ table right_name
-      (first_of (has_wild_number own host || has_wild_gap own) _ (second_of (has_wild_number own host) _ (ap not (none_if _ (number_at (codes "gap") own) e))))
+      (first_of (has_wild_number own host || has_wild_owner own host) _ (second_of (has_wild_number own host) _ (none_unless (has_wild_owner own host) (owner_by place own host) e)))
 
   -- there is no room
   pub table_late : have_no_room before ≡ true → first (clock_causes host before own) ≡ Some Number
-  table_late full = number_wrong _ _ _ table right_name (second_of (has_wild_number own host || has_wild_gap own) _ full)
+  table_late full = number_wrong _ _ _ table right_name (second_of (has_wild_number own host || has_wild_owner own host) _ full)
 
   -- nothing is wrong
-  pub table_sound : (clock : Clock) (place gap : ℕ) → Some clock ≡ (if has_wild_number own host then None else Some (clock_by_name name own host))
-      → Some gap ≡ (if is_up_to (nano_limit - 1) (whole_or_zero (codes "gap") own) then Some (number_at (codes "gap") own) else None) → have_no_room before ≡ false
-      → (clock_causes host before own ≡ []) × ((let a : Clock × Owner = (clock, (record { host = place; gap = gap })) in a) ≡ (clock_by_name (name_in own) own host, (record { host = place; gap = number_at (codes "gap") own })))
-  table_sound clock place gap numbers wide room =
+  pub table_sound : (clock : Clock) (place : ℕ) (owner : Owner) → Some clock ≡ (if has_wild_number own host then None else Some (clock_by_name name own host))
+      → Some owner ≡ (if has_wild_owner own host then None else Some (owner_by place own host)) → have_no_room before ≡ false
+      → (clock_causes host before own ≡ []) × ((let a : Clock × Owner = (clock, owner) in a) ≡ (clock_by_name (name_in own) own host, owner_by place own host))
+  table_sound clock place owner numbers owned room =
       let (tame, clock_is) = some_unless (has_wild_number own host) clock (clock_by_name name own host) numbers in
-      let (near, gap_is) = some_if (is_up_to (nano_limit - 1) (whole_or_zero (codes "gap") own)) gap (number_at (codes "gap") own) wide in
+      let (near, owner_is) = some_unless (has_wild_owner own host) owner (owner_by place own host) owned in
       let name_is = (some_unless (is_misnamed before own) name (name_in own) named).1 in (
-        none_wrong _ _ _ table right_name (neither_of _ _ (neither_of (has_wild_number own host) _ tame (ap not near)) room),
-        both (clock_is ∙ ap (λ (n : List ℕ). clock_by_name n own host) name_is) gap_is,
+        none_wrong _ _ _ table right_name (neither_of _ _ (neither_of (has_wild_number own host) _ tame near) room),
+        pair_of (clock_is ∙ ap (λ (n : List ℕ). clock_by_name n own host) name_is) owner_is,
       )
-    where
-      both : {right : Clock} {wide' : ℕ} → clock ≡ right → gap ≡ wide' → (let a : Clock × Owner = (clock, (record { host = place; gap = gap })) in a) ≡ (right, (record { host = place; gap = wide' }))
-      both p q = rw (p, q) refl
 
 pub table_room : (host own : Members) (before : List Clock) → clock_causes host before own ≡ [] → have_no_room before ≡ false
-table_room host own before e = (neither (has_wild_number own host || has_wild_gap own) _ (not_so _ Number (no_parts (table_causes form.Clock own ++ when (is_misnamed before own) Name) _ e).1)).1
+table_room host own before e = (neither (has_wild_number own host || has_wild_owner own host) _ (not_so _ Number (no_parts (table_causes form.Clock own ++ when (is_misnamed before own) Name) _ e).1)).1
 
 -- ---- table by table
 -- the next table
@@ -113,12 +113,12 @@ clocks_on all host before now d ds rest is next added =
     is ∙ ap (λ (items : Items). before ++ table_clocks host items) next ∙ sym (append_assoc before (clock_by_name (name_in (entry_table d)) (entry_table d) host ∷ []) (table_clocks host rest))
     ∙ ap (λ (clocks : List Clock). clocks ++ table_clocks host rest) (sym added)
 
-pub owners_on : (all : List Owner) (place : ℕ) (before now : List Owner) (d : Data) (ds rest : Items) → all ≡ before ++ owned_by place (table_gaps ds) → ds ≡ item d rest
-    → now ≡ before ++ (record { host = place; gap = number_at (codes "gap") (entry_table d) }) ∷ [] → all ≡ now ++ owned_by place (table_gaps rest)
-owners_on all place before now d ds rest is next added =
-    is ∙ ap (λ (items : Items). before ++ owned_by place (table_gaps items)) next
-    ∙ sym (append_assoc before ((record { host = place; gap = number_at (codes "gap") (entry_table d) }) ∷ []) (owned_by place (table_gaps rest)))
-    ∙ ap (λ (owners : List Owner). owners ++ owned_by place (table_gaps rest)) (sym added)
+pub owners_on : (all : List Owner) (place : ℕ) (host : Members) (before now : List Owner) (d : Data) (ds rest : Items) → all ≡ before ++ table_owners place host ds → ds ≡ item d rest
+    → now ≡ before ++ owner_by place (entry_table d) host ∷ [] → all ≡ now ++ table_owners place host rest
+owners_on all place host before now d ds rest is next added =
+    is ∙ ap (λ (items : Items). before ++ table_owners place host items) next
+    ∙ sym (append_assoc before (owner_by place (entry_table d) host ∷ []) (table_owners place host rest))
+    ∙ ap (λ (owners : List Owner). owners ++ table_owners place host rest) (sym added)
 
 -- where a host has tables of clocks
 module _ (before : List Clock) (name : List ℕ) (host : Members) (values : List Value) (ds : Items) (some : 0 < length values) (are : items_view values ≡ ds) where
@@ -136,9 +136,9 @@ module _ (before : List Clock) (name : List ℕ) (host : Members) (values : List
       go [] inside = absurd (omega (arith, inside))
       go (v ∷ vs) inside = refl
 
-  pub tabled_gaps : table_gaps (items_view values) ≡ gaps_by ds
-  tabled_gaps = go values some ∙ ap gaps_by are
+  pub tabled_owners : (place : ℕ) → table_owners place host (items_view values) ≡ owners_by place host ds
+  tabled_owners place = go values some ∙ ap (owners_by place host) are
     where
-      go : (vs : List Value) → 0 < length vs → table_gaps (items_view vs) ≡ gaps_by (items_view vs)
+      go : (vs : List Value) → 0 < length vs → table_owners place host (items_view vs) ≡ owners_by place host (items_view vs)
       go [] inside = absurd (omega (arith, inside))
       go (v ∷ vs) inside = refl

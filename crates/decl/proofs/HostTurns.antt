@@ -1,5 +1,5 @@
 -- Hosts one by one, as the code reads them.
-use Rattle.std.proofs.Common.{◌≡◌, ℕ, ◌+◌, ◌≤◌, false, not, ◌||◌, if◌then◌else◌, nat_lt, List, [], ◌∷◌, ◌++◌, Option, Some, None, String, Global, string_bytes, refl, sym, ap, ◌∙◌, subst, arith, append_assoc}
+use Rattle.std.proofs.Common.{◌≡◌, ℕ, ◌+◌, ◌-◌, ◌≤◌, false, not, ◌||◌, if◌then◌else◌, nat_lt, List, [], ◌∷◌, ◌++◌, Option, Some, None, String, Global, string_bytes, refl, sym, ap, ◌∙◌, subst, arith, append_assoc}
 use Rattle.std.specs.Prelude.{All}
 use Rattle.std.specs.List.{AllByRecursion}
 use Rattle.std.specs.List.Sorted.{IsStrictlySortedBy}
@@ -15,10 +15,10 @@ use Rattle.toml.specs.declared.value.Value.{Value}
 use Rattle.problem_model.specs.declared.items.Clock.{Clock}
 use Rattle.decl.specs.Addresses.{Known, at_host, known_with, numbers_of}
 use Rattle.decl.specs.Causes.{at, when, first, fault_of_entry, IsFirstOf}
-use Rattle.decl.specs.Clocks.{has_wild_number, clock_by_name, clock_tables, gaps_by, clocks_causes}
+use Rattle.decl.specs.Clocks.{has_wild_number, has_wild_owner, clock_by_name, owner_by, clock_tables, clocks_causes}
 use Rattle.decl.specs.Declaration.{Precedes}
-use Rattle.decl.specs.Hosts.{own_causes, host_causes, hosts_faults, addresses_in, addresses6_in, clocks_in, known_behind, hosts_of, clocks_of, owned_by, owners_from, addresses_from, addresses6_from, has_wrong_address, is_one_too_many}
-use Rattle.decl.specs.Keys.{table_causes, entry_causes, entry_table}
+use Rattle.decl.specs.Hosts.{own_causes, host_causes, hosts_faults, addresses_in, addresses6_in, clocks_in, known_behind, hosts_of, clocks_of, owners_in, owners_from, addresses_from, addresses6_from, has_wrong_address, is_one_too_many}
+use Rattle.decl.specs.Keys.{table_causes, entry_causes}
 use Rattle.decl.specs.Limits.{most_entries}
 use Rattle.decl.specs.Names.{is_clock_name}
 use Rattle.decl.specs.declared.cause.Cause.{Cause}
@@ -26,7 +26,7 @@ use Rattle.decl.specs.declared.cause.Cause.TheVariants.{Name, Number, Address as
 use Rattle.decl.specs.declared.errors.DeclError.{DeclError}
 use Rattle.decl.specs.declared.errors.Section.TheVariants.{Hosts}
 use Rattle.decl.specs.declared.keys.Form.TheVariants as form
-use Rattle.decl.proofs.ClockTurns.{none_wrong, number_wrong}
+use Rattle.decl.proofs.ClockTurns.{first_of, none_wrong, number_wrong, pair_of}
 use Rattle.decl.proofs.Faults.{few_index, neither_of, second_of, no_parts, not_so, neither, some_if, some_unless, none_unless, first_front, fault_front, fault_at, none_at}
 use Rattle.decl.specs.declared.items.Address.{Address}
 use Rattle.decl.specs.declared.hosts.Books.{Books}
@@ -38,24 +38,34 @@ use Rattle.decl.proofs.Searching.{Rise}
 
 -- what is wrong with keys, name and numbers
 abbrev pub front_causes : ℕ → List ℕ → Members → List Cause
-front_causes index name ms = table_causes form.Host ms ++ when (not (is_clock_name name)) Name ++ when (is_one_too_many index || has_wild_number no_members ms) Number
+front_causes index name ms = table_causes form.Host ms ++ when (not (is_clock_name name)) Name ++ when (is_one_too_many index || has_wild_number no_members ms || has_wild_owner no_members ms) Number
 
 module _ (index : ℕ) (name given : List ℕ) (ms : Members) (table : table_causes form.Host ms ≡ []) (named : Some given ≡ (if is_clock_name name then Some name else None)) where
   right_name : not (is_clock_name name) ≡ false
   right_name = ap not (some_if (is_clock_name name) given name named).0
 
   -- nothing is wrong
-  pub own_sound : (clock : Clock) → index ≤ most_entries → Some clock ≡ (if has_wild_number no_members ms then None else Some (clock_by_name given no_members ms))
-      → (front_causes index name ms ≡ []) × (clock ≡ clock_by_name name no_members ms)
-  own_sound clock few numbers =
-      let (tame, clock_is) = some_unless (has_wild_number no_members ms) clock (clock_by_name given no_members ms) numbers in (
-        none_wrong _ _ _ table right_name (neither_of _ _ (few_index index few) tame),
-        clock_is ∙ ap (λ (n : List ℕ). clock_by_name n no_members ms) (some_if (is_clock_name name) given name named).1,
+  pub own_sound : (clock : Clock) (owner : Owner) → index ≤ most_entries → Some clock ≡ (if has_wild_number no_members ms then None else Some (clock_by_name given no_members ms))
+      → Some owner ≡ (if has_wild_owner no_members ms then None else Some (owner_by (index - 1) no_members ms))
+      → (front_causes index name ms ≡ []) × ((let a : Clock × Owner = (clock, owner) in a) ≡ (clock_by_name name no_members ms, owner_by (index - 1) no_members ms))
+  own_sound clock owner few numbers owned =
+      let (tame, clock_is) = some_unless (has_wild_number no_members ms) clock (clock_by_name given no_members ms) numbers in
+      let (near, owner_is) = some_unless (has_wild_owner no_members ms) owner (owner_by (index - 1) no_members ms) owned in (
+        none_wrong _ _ _ table right_name (neither_of (is_one_too_many index || has_wild_number no_members ms) _ (neither_of _ _ (few_index index few) tame) near),
+        pair_of (clock_is ∙ ap (λ (n : List ℕ). clock_by_name n no_members ms) (some_if (is_clock_name name) given name named).1) owner_is,
       )
 
   -- a number is out of its range
   pub own_wild : None ≡ (if has_wild_number no_members ms then None else Some (clock_by_name given no_members ms)) → first (front_causes index name ms) ≡ Some Number
-  own_wild numbers = number_wrong _ _ _ table right_name (second_of (is_one_too_many index) _ (none_unless (has_wild_number no_members ms) (clock_by_name given no_members ms) numbers))
+  own_wild numbers =
+      number_wrong _ _ _ table right_name
+      (first_of (is_one_too_many index || has_wild_number no_members ms) _ (second_of (is_one_too_many index) _ (none_unless (has_wild_number no_members ms) (clock_by_name given no_members ms) numbers)))
+
+  -- the offset is
+  pub own_apart : None ≡ (if has_wild_owner no_members ms then None else Some (owner_by (index - 1) no_members ms)) → first (front_causes index name ms) ≡ Some Number
+  own_apart owned =
+      number_wrong _ _ _ table right_name
+      (second_of (is_one_too_many index || has_wild_number no_members ms) _ (none_unless (has_wild_owner no_members ms) (owner_by (index - 1) no_members ms) owned))
 
 -- a cause of the host itself comes before those of its clocks
 pub own_fault : (index : ℕ) (before : Known) (clocks : List Clock) (name : List ℕ) (ms : Members) (cause : Cause) (e : DeclError) → first (front_causes index name ms) ≡ Some cause → e ≡ fault_of_entry Hosts index cause
@@ -76,7 +86,7 @@ host_few index before clocks name (Some ms) e =
     let own = (no_parts (own_causes index before name ms) _ e).0 in
     let front = (no_parts (front_causes index name ms) _ own).0 in
     let last = (no_parts (table_causes form.Host ms ++ when (not (is_clock_name name)) Name) _ front).1 in
-    let many : nat_lt most_entries index ≡ false = (neither _ _ (not_so _ Number last)).0 in
+    let many : nat_lt most_entries index ≡ false = (neither (is_one_too_many index) _ (neither (is_one_too_many index || has_wild_number no_members ms) _ (not_so _ Number last)).0).0 in
     grind (arith, many)
 
 -- ---- host by host
@@ -125,11 +135,11 @@ host_clocks_on all clocks new entries rest name value is next added =
     ∙ ap (λ (front : List Clock). front ++ clocks_of (members_view rest)) (sym added)
 
 pub host_owners_on : (all : List Owner) (place same : ℕ) (owners new : List Owner) (entries rest : List Entry) (name : String Global) (value : Value) → all ≡ owners ++ owners_from place (members_view entries)
-    → entries ≡ (name, value) ∷ rest → same ≡ place → new ≡ owners ++ owned_by same (gaps_by (clock_tables (entry_table (view value)))) → all ≡ new ++ owners_from (place + 1) (members_view rest)
+    → entries ≡ (name, value) ∷ rest → same ≡ place → new ≡ owners ++ owners_in same (view value) → all ≡ new ++ owners_from (place + 1) (members_view rest)
 host_owners_on all place same owners new entries rest name value is next e added =
     is ∙ ap (λ (es : List Entry). owners ++ owners_from place (members_view es)) next
-    ∙ sym (append_assoc owners (owned_by place (gaps_by (clock_tables (entry_table (view value))))) (owners_from (place + 1) (members_view rest)))
-    ∙ ap (λ (front : List Owner). front ++ owners_from (place + 1) (members_view rest)) (sym (added ∙ ap (λ (p : ℕ). owners ++ owned_by p (gaps_by (clock_tables (entry_table (view value))))) e))
+    ∙ sym (append_assoc owners (owners_in place (view value)) (owners_from (place + 1) (members_view rest)))
+    ∙ ap (λ (front : List Owner). front ++ owners_from (place + 1) (members_view rest)) (sym (added ∙ ap (λ (p : ℕ). owners ++ owners_in p (view value)) e))
 
 pub addresses_on : (all : List Address) (place same : ℕ) (book new : List Address) (entries rest : List Entry) (name : String Global) (value : Value) → all ≡ book ++ addresses_from place (members_view entries)
     → entries ≡ (name, value) ∷ rest → same ≡ place → new ≡ book ++ at_host same (addresses_in (view value)) → all ≡ new ++ addresses_from (place + 1) (members_view rest)

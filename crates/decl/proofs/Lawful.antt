@@ -1,6 +1,6 @@
 -- What hosts without a fault declare is lawful.
-use Rattle.std.proofs.Common.{◌≡◌, ◌≢◌, ℕ, zero, suc, ◌+◌, ◌-◌, ◌<◌, ◌≤◌, ◌==◌, Bool, true, false, not, ◌||◌, nat_abs, unwrap_or, is_some, option_to_list, List, [], ◌∷◌, ◌++◌, length, length-append, map, get_or, slice_get, Option, Some, None, ℤ, codes, eq-eqb, refl, sym, ap, ◌∙◌, subst, arith, append_assoc, append-nil}
-use Rattle.std.specs.Prelude.{All, AllPairs, ⊤}
+use Rattle.std.proofs.Common.{◌≡◌, ◌≢◌, ℕ, zero, suc, ◌+◌, ◌-◌, ◌<◌, ◌≤◌, ◌==◌, Bool, true, false, not, ◌||◌, nat_abs, unwrap_or, option_map, is_some, option_to_list, List, [], ◌∷◌, ◌++◌, length, length-append, map, get_or, slice_get, Option, Some, None, ℤ, pos, codes, eq-eqb, refl, sym, ap, ◌∙◌, subst, arith, append_assoc, append-nil}
+use Rattle.std.specs.Prelude.{All, AllPairs, IfSome, ⊤}
 use Rattle.std.specs.List.{position_from, list_any}
 use Rattle.std.specs.Str.{bytes_eq}
 use Rattle.std.specs.Int.{from_be_bytes, w32}
@@ -16,13 +16,13 @@ use Rattle.problem_model.specs.Limits.{most_clocks}
 use Rattle.toml.specs.Data.{Data, as_table, Items, no_items, item, Members, no_members, member}
 use Rattle.decl.specs.Addresses.{Known, address_of, address6_of, at_host, has_bad_address, is_bad_address, none_known, numbers_of, written}
 use Rattle.decl.specs.Causes.{at, when}
-use Rattle.decl.specs.Clocks.{own_or_host, has_wild_rate, has_wild_number, has_wild_gap, clock_by_name, name_in, is_taken, have_no_room, clock_causes, clock_tables, table_clocks, tables_causes, table_gaps, clocks_by, gaps_by, clocks_causes}
+use Rattle.decl.specs.Clocks.{own_or_host, has_wild_rate, has_wild_number, has_wild_gap, has_wild_owner, clock_by_name, owner_by, name_in, is_taken, have_no_room, clock_causes, clock_tables, table_clocks, tables_causes, table_owners, clocks_by, owners_by, clocks_causes}
 use Rattle.decl.specs.Declaration.{IsClockOf}
-use Rattle.decl.specs.Hosts.{address_texts, address6_texts, is_one_too_many, own_causes, host_causes, addresses_in, addresses6_in, known_behind, clocks_in, hosts_faults, hosts_of, clocks_of, owned_by, owners_from, addresses_from, addresses6_from}
+use Rattle.decl.specs.Hosts.{address_texts, address6_texts, is_one_too_many, own_causes, host_causes, addresses_in, addresses6_in, known_behind, clocks_in, hosts_faults, hosts_of, clocks_of, owners_in, owners_from, addresses_from, addresses6_from}
 use Rattle.decl.specs.Keys.{table_causes, entry_causes, entry_table}
 use Rattle.decl.specs.Limits.{most_entries, most_short, most_long, nano_limit, address_limit}
 use Rattle.decl.specs.Names.{is_clock_name}
-use Rattle.decl.specs.Values.{is_up_to, whole_or_zero, number_at}
+use Rattle.decl.specs.Values.{is_up_to, is_within, whole_or_zero}
 use Rattle.decl.specs.declared.cause.Cause.TheVariants as cause
 use Rattle.decl.specs.declared.errors.Section.TheVariants.{Hosts}
 use Rattle.decl.specs.declared.items.Address.{Address}
@@ -42,6 +42,15 @@ up_to_le limit z e = grind (arith, e)
 pub below_62 : (z : ℤ) → is_up_to (nano_limit - 1) z ≡ true → nat_abs z < nano_limit
 below_62 z e = omega (arith, up_to_le (nano_limit - 1) z e)
 
+within_62 : (z : ℤ) → is_within (nano_limit - 1) z ≡ true → nat_abs z < nano_limit
+within_62 z e =
+    let le : nat_abs z ≤ nano_limit - 1 = grind (arith, e) in
+    omega (arith, le)
+
+pub optional_fits : (o : Option ℤ) → is_up_to (nano_limit - 1) (unwrap_or o (pos 0)) ≡ true → IfSome (option_map nat_abs o) (λ n. n < nano_limit)
+optional_fits None e = tt
+optional_fits (Some z) e = below_62 z e
+
 pub wild : (a b : Bool) → (not a || not b) ≡ false → (a ≡ true) × (b ≡ true)
 wild true true e = (refl, refl)
 wild true false e = cc
@@ -57,6 +66,15 @@ clock_fits name own host tame =
       below_62 (own_or_host (codes "early") own host) (not_false _ early),
       below_62 (own_or_host (codes "late") own host) (not_false _ late),
     )
+
+-- the gap and the offset are in their ranges
+abbrev OwnerFits : Owner → Type 0
+OwnerFits o = (o.gap < nano_limit) × (nat_abs o.offset < nano_limit)
+
+owner_fits : (place : ℕ) (own host : Members) → has_wild_owner own host ≡ false → OwnerFits (owner_by place own host)
+owner_fits place own host tame =
+    let (gap, offset) = neither (has_wild_gap own) _ tame in
+    (below_62 (whole_or_zero (codes "gap") own) (not_false _ gap), within_62 (own_or_host (codes "offset") own host) (not_false _ offset))
 
 -- ---- clocks, one behind the other
 
@@ -115,7 +133,7 @@ room_is before e = grind (arith, e)
 -- what is known of a clock's table without a fault
 record GoodTable (host : Members) (before : List Clock) (own : Members) : Type 0 where
   clock : GoodClock before (clock_by_name (name_in own) own host)
-  gap : number_at (codes "gap") own < nano_limit
+  owner : (place : ℕ) → OwnerFits (owner_by place own host)
 
 good_table : (host : Members) (before : List Clock) (o : Option Members) → entry_causes (clock_causes host before) o ≡ [] → GoodTable host before (unwrap_or o no_members)
 good_table host before None e = cc
@@ -123,8 +141,8 @@ good_table host before (Some own) e =
     let (front, numbers) = no_parts (table_causes form.Clock own ++ when (not (is_clock_name (name_in own)) || is_taken before (name_in own)) cause.Name) _ e in
     let (_, names) = no_parts (table_causes form.Clock own) _ front in
     let (named, fresh) = neither (not (is_clock_name (name_in own))) _ (not_so _ cause.Name names) in
-    let (tame, full) = neither (has_wild_number own host || has_wild_gap own) _ (not_so _ cause.Number numbers) in
-    let (fits, gap) = neither (has_wild_number own host) _ tame in
+    let (tame, full) = neither (has_wild_number own host || has_wild_owner own host) _ (not_so _ cause.Number numbers) in
+    let (fits, near) = neither (has_wild_number own host) _ tame in
     record {
       clock = record {
         named = clock_name_is (name_in own) (not_false _ named);
@@ -132,7 +150,7 @@ good_table host before (Some own) e =
         fresh = fresh;
         room = room_is before full;
       };
-      gap = below_62 (whole_or_zero (codes "gap") own) (not_false _ gap);
+      owner = λ place. owner_fits place own host near;
     }
 
 -- the first table and the others
@@ -148,11 +166,11 @@ tables_good host before no_items e = tt
 tables_good host before (item d ds) e =
     ((table_here host before d ds e).clock, tables_good host (before ++ clock_by_name (name_in (entry_table d)) (entry_table d) host ∷ []) ds (tables_behind host before d ds e))
 
-table_gaps_fit : (host : Members) (before : List Clock) (ds : Items) → tables_causes host before ds ≡ [] → All (λ (gap : ℕ). gap < nano_limit) (table_gaps ds)
-table_gaps_fit host before no_items e = All-nil (λ (gap : ℕ). gap < nano_limit)
-table_gaps_fit host before (item d ds) e =
-    All-cons (λ (gap : ℕ). gap < nano_limit) _ _ (table_here host before d ds e).gap
-    (table_gaps_fit host (before ++ clock_by_name (name_in (entry_table d)) (entry_table d) host ∷ []) ds (tables_behind host before d ds e))
+table_owners_fit : (place : ℕ) (host : Members) (before : List Clock) (ds : Items) → tables_causes host before ds ≡ [] → All OwnerFits (table_owners place host ds)
+table_owners_fit place host before no_items e = All-nil OwnerFits
+table_owners_fit place host before (item d ds) e =
+    All-cons OwnerFits _ _ ((table_here host before d ds e).owner place)
+    (table_owners_fit place host (before ++ clock_by_name (name_in (entry_table d)) (entry_table d) host ∷ []) ds (tables_behind host before d ds e))
 
 clocks_good : (before : List Clock) (name : List ℕ) (host : Members) (ds : Items) → IsClockName name → has_wild_number no_members host ≡ false → clocks_causes before name host ds ≡ [] → AreGood before (clocks_by name host ds)
 clocks_good before name host no_items named tame e =
@@ -160,9 +178,9 @@ clocks_good before name host no_items named tame e =
     (record { named = named; fits = clock_fits name no_members host tame; fresh = not_so _ cause.Name taken; room = room_is before (not_so _ cause.Number full) }, tt)
 clocks_good before name host (item d ds) named tame e = tables_good host before (item d ds) e
 
-clock_gaps_fit : (before : List Clock) (name : List ℕ) (host : Members) (ds : Items) → clocks_causes before name host ds ≡ [] → All (λ (gap : ℕ). gap < nano_limit) (gaps_by ds)
-clock_gaps_fit before name host no_items e = All-cons (λ (gap : ℕ). gap < nano_limit) 0 [] (omega arith) (All-nil (λ (gap : ℕ). gap < nano_limit))
-clock_gaps_fit before name host (item d ds) e = table_gaps_fit host before (item d ds) e
+host_owners_fit : (place : ℕ) (before : List Clock) (name : List ℕ) (host : Members) (ds : Items) → has_wild_owner no_members host ≡ false → clocks_causes before name host ds ≡ [] → All OwnerFits (owners_by place host ds)
+host_owners_fit place before name host no_items tame e = All-cons OwnerFits (owner_by place no_members host) [] (owner_fits place no_members host tame) (All-nil OwnerFits)
+host_owners_fit place before name host (item d ds) tame e = table_owners_fit place host before (item d ds) e
 
 -- ---- hosts
 
@@ -173,7 +191,7 @@ record GoodHost (index : ℕ) (before : Known) (clocks : List Clock) (name : Lis
   fresh : has_bad_address address_of before.narrow (address_texts ms) ≡ false
   fresh6 : has_bad_address address6_of before.wide (address6_texts ms) ≡ false
   good : AreGood clocks (clocks_by name ms (clock_tables ms))
-  gaps : All (λ (gap : ℕ). gap < nano_limit) (gaps_by (clock_tables ms))
+  owners : (place : ℕ) → All OwnerFits (owners_by place ms (clock_tables ms))
 
 few_is : (index : ℕ) → is_one_too_many index ≡ false → index ≤ most_entries
 few_is index e = grind (arith, e)
@@ -182,10 +200,11 @@ good_host : (index : ℕ) (before : Known) (clocks : List Clock) (name : List �
 good_host index before clocks name None e = cc
 good_host index before clocks name (Some ms) e =
     let (own, behind) = no_parts (own_causes index before name ms) _ e in
-    let (clock, bad) = no_parts (table_causes form.Host ms ++ when (not (is_clock_name name)) cause.Name ++ when (is_one_too_many index || has_wild_number no_members ms) cause.Number) _ own in
+    let (clock, bad) = no_parts (table_causes form.Host ms ++ when (not (is_clock_name name)) cause.Name ++ when (is_one_too_many index || has_wild_number no_members ms || has_wild_owner no_members ms) cause.Number) _ own in
     let (front, numbers) = no_parts (table_causes form.Host ms ++ when (not (is_clock_name name)) cause.Name) _ clock in
     let (table, names) = no_parts (table_causes form.Host ms) _ front in
-    let (few, tame) = neither (is_one_too_many index) _ (not_so _ cause.Number numbers) in
+    let (front_tame, near) = neither (is_one_too_many index || has_wild_number no_members ms) _ (not_so _ cause.Number numbers) in
+    let (few, tame) = neither (is_one_too_many index) _ front_tame in
     let (fresh, fresh6) = neither (has_bad_address address_of before.narrow (address_texts ms)) _ (not_so _ cause.Address bad) in
     let named : IsClockName name = clock_name_is name (not_false _ (not_so _ cause.Name names)) in
     record {
@@ -194,7 +213,7 @@ good_host index before clocks name (Some ms) e =
       fresh = fresh;
       fresh6 = fresh6;
       good = clocks_good clocks name ms (clock_tables ms) named tame behind;
-      gaps = clock_gaps_fit clocks name ms (clock_tables ms) behind;
+      owners = λ place. host_owners_fit place clocks name ms (clock_tables ms) near behind;
     }
 
 -- the first host and the others
@@ -227,69 +246,78 @@ hosts_good index before clocks (member name d ms) e =
 
 -- ---- owners
 
-tables_counted : (host : Members) (ds : Items) → length (table_gaps ds) ≡ length (table_clocks host ds)
-tables_counted host no_items = refl
-tables_counted host (item d ds) = ap suc (tables_counted host ds)
+tables_counted : (place : ℕ) (host : Members) (ds : Items) → length (table_owners place host ds) ≡ length (table_clocks host ds)
+tables_counted place host no_items = refl
+tables_counted place host (item d ds) = ap suc (tables_counted place host ds)
 
-gaps_counted : (name : List ℕ) (host : Members) (ds : Items) → length (gaps_by ds) ≡ length (clocks_by name host ds)
-gaps_counted name host no_items = refl
-gaps_counted name host (item d ds) = tables_counted host (item d ds)
+host_counted : (place : ℕ) (name : List ℕ) (host : Members) (ds : Items) → length (owners_by place host ds) ≡ length (clocks_by name host ds)
+host_counted place name host no_items = refl
+host_counted place name host (item d ds) = tables_counted place host (item d ds)
 
 owners_counted : (place : ℕ) (ms : Members) → length (owners_from place ms) ≡ length (clocks_of ms)
 owners_counted place no_members = refl
 owners_counted place (member name d ms) =
-    let gaps = gaps_by (clock_tables (entry_table d)) in
-    let owned : length (owned_by place gaps) ≡ length gaps = length-map gaps (λ gap. record { host = place; gap = gap }) in
-    let here = gaps_counted name (entry_table d) (clock_tables (entry_table d)) in
+    let here = host_counted place name (entry_table d) (clock_tables (entry_table d)) in
     let more = owners_counted (place + 1) ms in
-    let left = length-append (owned_by place gaps) (owners_from (place + 1) ms) in
+    let left = length-append (owners_in place d) (owners_from (place + 1) ms) in
     let right = length-append (clocks_in name d) (clocks_of ms) in
-    left ∙ ap (λ (n : ℕ). n + length (owners_from (place + 1) ms)) (owned ∙ here) ∙ ap (λ (n : ℕ). length (clocks_in name d) + n) more ∙ sym right
+    left ∙ ap (λ (n : ℕ). n + length (owners_from (place + 1) ms)) here ∙ ap (λ (n : ℕ). length (clocks_in name d) + n) more ∙ sym right
 
--- what holds of an owner with each of these gaps holds of all owners with them
-owners_of_host : (P : Owner → Type 0) (place : ℕ) (gaps : List ℕ) → All (λ (gap : ℕ). P (let o : Owner = record { host = place; gap = gap } in o)) gaps → All P (owned_by place gaps)
-owners_of_host P place [] all = All-nil P
-owners_of_host P place (gap ∷ gaps) all = All-cons P _ _ (all 0 gap (omega arith)) (owners_of_host P place gaps (λ k d below. all (suc k) d (omega (arith, below))))
+-- what holds of each owner by a host holds of all of its owners
+module _ (P : Owner → Type 0) (place : ℕ) (host : Members) (each : (own : Members) → P (owner_by place own host)) where
+  owners_of_tables : (ds : Items) → All P (table_owners place host ds)
+  owners_of_tables no_items = All-nil P
+  owners_of_tables (item d ds) = All-cons P _ _ (each (entry_table d)) (owners_of_tables ds)
+
+  owners_of_host : (ds : Items) → All P (owners_by place host ds)
+  owners_of_host no_items = All-cons P (owner_by place no_members host) [] (each no_members) (All-nil P)
+  owners_of_host (item d ds) = owners_of_tables (item d ds)
 
 owners_placed : (place : ℕ) (ms : Members) (n : ℕ) → place + length (hosts_of ms) ≡ n → All (λ (o : Owner). o.host < n) (owners_from place ms)
 owners_placed place no_members n e = All-nil (λ (o : Owner). o.host < n)
 owners_placed place (member name d ms) n e =
-    All-append (λ (o : Owner). o.host < n) (owned_by place (gaps_by (clock_tables (entry_table d)))) (owners_from (place + 1) ms)
-    (owners_of_host (λ (o : Owner). o.host < n) place (gaps_by (clock_tables (entry_table d))) (λ k gap below. omega (arith, e)))
+    All-append (λ (o : Owner). o.host < n) (owners_in place d) (owners_from (place + 1) ms)
+    (owners_of_host (λ (o : Owner). o.host < n) place (entry_table d) (λ own. omega (arith, e)) (clock_tables (entry_table d)))
     (owners_placed (place + 1) ms n (omega (arith, e)))
 
 owners_above : (least place : ℕ) (ms : Members) → least ≤ place → All (λ (o : Owner). least ≤ o.host) (owners_from place ms)
 owners_above least place no_members le = All-nil (λ (o : Owner). least ≤ o.host)
 owners_above least place (member name d ms) le =
-    All-append (λ (o : Owner). least ≤ o.host) (owned_by place (gaps_by (clock_tables (entry_table d)))) (owners_from (place + 1) ms)
-    (owners_of_host (λ (o : Owner). least ≤ o.host) place (gaps_by (clock_tables (entry_table d))) (λ k gap below. le))
+    All-append (λ (o : Owner). least ≤ o.host) (owners_in place d) (owners_from (place + 1) ms)
+    (owners_of_host (λ (o : Owner). least ≤ o.host) place (entry_table d) (λ own. le) (clock_tables (entry_table d)))
     (owners_above least (place + 1) ms (omega (arith, le)))
 
 -- owners of a host before those of hosts behind it
-host_rises : (place : ℕ) (gaps : List ℕ) (more : List Owner) → All (λ (o : Owner). place ≤ o.host) more → AllPairs (λ (a b : Owner). a.host ≤ b.host) more
-    → AllPairs (λ (a b : Owner). a.host ≤ b.host) (owned_by place gaps ++ more)
-host_rises place [] more above rise = rise
-host_rises place (gap ∷ gaps) more above rise =
+host_rises : (place : ℕ) (front more : List Owner) → All (λ (o : Owner). o.host ≡ place) front → All (λ (o : Owner). place ≤ o.host) more → AllPairs (λ (a b : Owner). a.host ≤ b.host) more
+    → AllPairs (λ (a b : Owner). a.host ≤ b.host) (front ++ more)
+host_rises place [] more same above rise = rise
+host_rises place (o ∷ front) more same above rise =
+    let here : o.host ≡ place = same 0 o (omega arith) in
+    let rest : All (λ (p : Owner). p.host ≡ place) front = λ k p below. same (suc k) p (omega (arith, below)) in
     AllPairs-cons (λ (a b : Owner). a.host ≤ b.host) _ _
-    (All-append (λ (o : Owner). place ≤ o.host) (owned_by place gaps) more (owners_of_host (λ (o : Owner). place ≤ o.host) place gaps (λ k g below. omega arith)) above)
-    (host_rises place gaps more above rise)
+    (All-append (λ (p : Owner). o.host ≤ p.host) front more
+    (λ k p below. let is : (get_or front k p).host ≡ place = rest k p below in omega (arith, here, is))
+    (λ k p below. let le : place ≤ (get_or more k p).host = above k p below in omega (arith, here, le)))
+    (host_rises place front more rest above rise)
 
 owners_rise_from : (place : ℕ) (ms : Members) → AllPairs (λ (a b : Owner). a.host ≤ b.host) (owners_from place ms)
 owners_rise_from place no_members = λ i j d below inside. absurd (omega (arith, inside))
 owners_rise_from place (member name d ms) =
-    host_rises place (gaps_by (clock_tables (entry_table d))) (owners_from (place + 1) ms) (owners_above place (place + 1) ms (omega arith)) (owners_rise_from (place + 1) ms)
+    host_rises place (owners_in place d) (owners_from (place + 1) ms)
+    (owners_of_host (λ (o : Owner). o.host ≡ place) place (entry_table d) (λ own. refl) (clock_tables (entry_table d)))
+    (owners_above place (place + 1) ms (omega arith)) (owners_rise_from (place + 1) ms)
 
-owners_fit : (index place : ℕ) (before : Known) (clocks : List Clock) (ms : Members) → hosts_faults index before clocks ms ≡ [] → All (λ (o : Owner). o.gap < nano_limit) (owners_from place ms)
-owners_fit index place before clocks no_members e = All-nil (λ (o : Owner). o.gap < nano_limit)
+owners_fit : (index place : ℕ) (before : Known) (clocks : List Clock) (ms : Members) → hosts_faults index before clocks ms ≡ [] → All OwnerFits (owners_from place ms)
+owners_fit index place before clocks no_members e = All-nil OwnerFits
 owners_fit index place before clocks (member name d ms) e =
-    All-append (λ (o : Owner). o.gap < nano_limit) (owned_by place (gaps_by (clock_tables (entry_table d)))) (owners_from (place + 1) ms)
-    (owners_of_host (λ (o : Owner). o.gap < nano_limit) place (gaps_by (clock_tables (entry_table d))) (host_here index before clocks name d ms e).gaps)
+    All-append OwnerFits (owners_in place d) (owners_from (place + 1) ms)
+    ((host_here index before clocks name d ms e).owners place)
     (owners_fit (index + 1) (place + 1) (known_behind before d) (clocks ++ clocks_in name d) ms (hosts_behind index before clocks name d ms e))
 
 -- each host has a first clock
-first_owned : (place : ℕ) (ds : Items) (more : List Owner) → IsClockOf (owned_by place (gaps_by ds) ++ more) place 0
-first_owned place no_items more = (record { host = place; gap = 0 }, refl, refl)
-first_owned place (item d ds) more = (record { host = place; gap = number_at (codes "gap") (entry_table d) }, refl, refl)
+first_owned : (place : ℕ) (host : Members) (ds : Items) (more : List Owner) → IsClockOf (owners_by place host ds ++ more) place 0
+first_owned place host no_items more = (owner_by place no_members host, refl, refl)
+first_owned place host (item d ds) more = (owner_by place (entry_table d) host, refl, refl)
 
 get_behind : (front more : List Owner) (k : ℕ) → slice_get (front ++ more) (length front + k) ≡ slice_get more k
 get_behind [] more k = ap (λ (n : ℕ). slice_get more n) (let none : 0 + k ≡ k = omega arith in none)
@@ -302,9 +330,9 @@ owned_behind front more host clock owned = (owned.0, get_behind front more clock
 host_owned : (place : ℕ) (ms : Members) (host : ℕ) → host < length (hosts_of ms) → (clock : ℕ) × IsClockOf (owners_from place ms) (place + host) clock
 host_owned place no_members host inside = absurd (omega (arith, inside))
 host_owned place (member name d ms) zero inside =
-    (0, subst (λ (h : ℕ). IsClockOf (owners_from place (member name d ms)) h 0) (let same : place ≡ place + 0 = omega arith in same) (first_owned place (clock_tables (entry_table d)) (owners_from (place + 1) ms)))
+    (0, subst (λ (h : ℕ). IsClockOf (owners_from place (member name d ms)) h 0) (let same : place ≡ place + 0 = omega arith in same) (first_owned place (entry_table d) (clock_tables (entry_table d)) (owners_from (place + 1) ms)))
 host_owned place (member name d ms) (suc host) inside =
-    let front = owned_by place (gaps_by (clock_tables (entry_table d))) in
+    let front = owners_in place d in
     let more = host_owned (place + 1) ms host (omega (arith, inside)) in (
       length front + more.0,
       owned_behind front (owners_from (place + 1) ms) (place + suc host) more.0
@@ -427,7 +455,10 @@ every_host ms host inside =
     (owned.0, subst (λ (h : ℕ). IsClockOf (owners_from 0 ms) h owned.0) (let same : 0 + host ≡ host = omega arith in same) owned.1)
 
 pub gaps_fit : (ms : Members) → hosts_faults 1 none_known [] ms ≡ [] → All (λ (o : Owner). o.gap < nano_limit) (owners_from 0 ms)
-gaps_fit ms e = owners_fit 1 0 none_known [] ms e
+gaps_fit ms e = λ k o below. (owners_fit 1 0 none_known [] ms e k o below).0
+
+pub offsets_fit : (ms : Members) → hosts_faults 1 none_known [] ms ≡ [] → All (λ (o : Owner). nat_abs o.offset < nano_limit) (owners_from 0 ms)
+offsets_fit ms e = λ k o below. (owners_fit 1 0 none_known [] ms e k o below).1
 
 pub address_hosts : (ms : Members) → All (λ (a : Address). a.host < length (hosts_of ms)) (addresses_from 0 ms)
 address_hosts ms = addresses_placed 0 ms (length (hosts_of ms)) (omega arith)

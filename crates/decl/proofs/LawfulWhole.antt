@@ -1,5 +1,5 @@
 -- What a document without a fault declares is lawful.
-use Rattle.std.proofs.Common.{◌≡◌, ℕ, suc, ◌+◌, ◌-◌, ◌<◌, ◌≤◌, ◌==◌, ◌&&◌, Bool, true, false, not, ◌||◌, if◌then◌else◌, is_none, nat_abs, unwrap_or, option_map, List, [], ◌∷◌, ◌++◌, length, get_or, slice_get, Option, Some, None, ℤ, pos, codes, eq-eqb, eqb-true, refl, sym, ap, subst, arith}
+use Rattle.std.proofs.Common.{◌≡◌, ℕ, suc, ◌+◌, ◌-◌, ◌<◌, ◌≤◌, ◌==◌, ◌&&◌, Bool, true, false, not, ◌||◌, if◌then◌else◌, is_none, unwrap_or, option_map, List, [], ◌∷◌, ◌++◌, length, get_or, slice_get, Option, Some, None, codes, eq-eqb, eqb-true, refl, sym, ap, subst, arith}
 use Rattle.std.specs.Prelude.{All, AllPairs, IfSome, option_and_then}
 use Rattle.std.specs.List.{position_from}
 use Rattle.std.proofs.lemmas.List.Elements.{All-cons, All-nil}
@@ -31,7 +31,7 @@ use Rattle.decl.proofs.Faults.{neither, no_causes, no_parts, not_false, not_so}
 use Rattle.decl.proofs.Fresh.{IsFresh, all_apart}
 use Rattle.decl.proofs.LabelTurns.{RiseLabels, label_few}
 use Rattle.decl.proofs.Lawful as lawful_hosts
-use Rattle.decl.proofs.Lawful.{up_to_le, below_62, wild}
+use Rattle.decl.proofs.Lawful.{up_to_le, below_62, optional_fits, wild}
 use Rattle.decl.proofs.LinkTurns.{link_few}
 use Rattle.decl.proofs.Searching.{Rise}
 
@@ -171,10 +171,6 @@ module _ (hosts : List (List ℕ)) where
   astray before (Some from) None e = cc
   astray before (Some from) (Some to) e = (refl, refl, e)
 
-  most_fits : (o : Option ℤ) → is_up_to (nano_limit - 1) (unwrap_or o (pos 0)) ≡ true → IfSome (option_map nat_abs o) (λ most. most < nano_limit)
-  most_fits None e = tt
-  most_fits (Some z) e = below_62 z e
-
   good_link : (index : ℕ) (before : List Link) (o : Option Members) → entry_causes (link_causes hosts index before) o ≡ [] → GoodLink before (unwrap_or o no_members)
   good_link index before None e = cc
   good_link index before (Some ms) e =
@@ -187,7 +183,7 @@ module _ (hosts : List (List ℕ)) where
         start = known_below (codes "from") ms from;
         end = known_below (codes "to") ms to;
         fresh = fresh;
-        fits = (below_62 (whole_or_zero (codes "least") ms) least, most_fits (whole_at (codes "most") ms) most);
+        fits = (below_62 (whole_or_zero (codes "least") ms) least, optional_fits (whole_at (codes "most") ms) most);
       }
 
   link_here : (index : ℕ) (before : List Link) (d : Data) (ds : Items) → links_faults hosts index before (item d ds) ≡ [] → entry_causes (link_causes hosts index before) (as_table d) ≡ []
@@ -261,7 +257,8 @@ lawful ms rise labels_rise e =
     let (hosts, behind_hosts) = no_parts (hosts_faults 1 none_known [] tables) _ behind_top in
     let (labels, behind_labels) = no_parts (labels_faults lists 1 (labels_in ms)) _ behind_hosts in
     let (links, source) = no_parts (links_faults names 1 [] (links_in ms)) _ behind_labels in
-    let payload = (no_parts (table_causes form.Document ms) _ (no_causes Top 0 (top_causes ms) top)).1 in
+    let numbers = (no_parts (table_causes form.Document ms) _ (no_causes Top 0 (top_causes ms) top)).1 in
+    let (payload, window) = wild (is_up_to most_payload (whole_or_zero (codes "payload_bytes") ms)) (is_up_to (nano_limit - 1) (whole_or_zero (codes "window") ms)) (not_so _ cause.Number numbers) in
     record {
       hosts = record {
         host_names = lawful_hosts.host_names tables hosts;
@@ -279,6 +276,7 @@ lawful ms rise labels_rise e =
         owners_rise = lawful_hosts.owners_rise tables;
         every_host = lawful_hosts.every_host tables;
         gaps_fit = lawful_hosts.gaps_fit tables hosts;
+        offsets_fit = lawful_hosts.offsets_fit tables hosts;
       };
       addresses = record {
         address_hosts = lawful_hosts.address_hosts tables;
@@ -306,6 +304,7 @@ lawful ms rise labels_rise e =
         clock_limit = lawful_hosts.clock_limit tables hosts;
         label_limit = omega (arith, labels_few lists 1 (labels_in ms) (omega arith) labels);
         link_limit = omega (arith, links_few names 1 [] (links_in ms) (omega arith) links);
-        payload_limit = up_to_le most_payload (whole_or_zero (codes "payload_bytes") ms) (not_false _ (not_so _ cause.Number payload));
+        payload_limit = up_to_le most_payload (whole_or_zero (codes "payload_bytes") ms) payload;
+        window_limit = optional_fits (whole_at (codes "window") ms) window;
       };
     }

@@ -4,6 +4,7 @@ mod Grouped
 pub mod Following
 pub mod Searching
 mod Faults
+mod Optional
 mod ClockPlaces
 mod ClockTurns
 mod NoClock

@@ -1,5 +1,5 @@
 -- Links one by one, as the code reads them.
-use Rattle.std.proofs.Common.{◌≡◌, ℕ, ◌+◌, ◌-◌, ◌≤◌, ◌<◌, Bool, true, false, not, ◌||◌, if◌then◌else◌, unwrap_or, nat_lt, option_map, nat_abs, List, [], ◌∷◌, ◌++◌, length, get_or, drop, Option, Some, None, ℤ, pos, codes, refl, sym, ap, ◌∙◌, subst, arith, append_assoc}
+use Rattle.std.proofs.Common.{◌≡◌, ℕ, ◌+◌, ◌-◌, ◌≤◌, ◌<◌, Bool, true, false, not, ◌||◌, if◌then◌else◌, unwrap_or, nat_lt, List, [], ◌∷◌, ◌++◌, length, get_or, drop, Option, Some, None, codes, refl, sym, ap, ◌∙◌, subst, arith, append_assoc}
 use Rattle.std.specs.Prelude.{◌==◌, ◌&&◌, cond}
 use Rattle.std.specs.Ordering.{nat_cmp, ordering_then, is_eq}
 use Rattle.std.proofs.lemmas.List.Folds.{list_any-append}
@@ -13,7 +13,7 @@ use Rattle.decl.specs.Keys.{table_causes, entry_causes, entry_table}
 use Rattle.decl.specs.Labels.{host_at_key}
 use Rattle.decl.specs.Limits.{most_entries, nano_limit}
 use Rattle.decl.specs.Links.{has_link, is_astray, most_at, link_causes, link_of, links_faults, links_of}
-use Rattle.decl.specs.Values.{whole_at, whole_or_zero, number_at, is_up_to}
+use Rattle.decl.specs.Values.{whole_or_zero, number_at, is_up_to}
 use Rattle.decl.specs.declared.cause.Cause.{Cause}
 use Rattle.decl.specs.declared.cause.Cause.TheVariants.{Name, Number}
 use Rattle.decl.specs.declared.errors.DeclError.{DeclError}
@@ -21,27 +21,6 @@ use Rattle.decl.specs.declared.errors.Section.TheVariants.{Links}
 use Rattle.decl.specs.declared.items.Link.{Link}
 use Rattle.decl.specs.declared.keys.Form.TheVariants as form
 use Rattle.decl.proofs.Faults.{few_index, neither_of, second_of, no_parts, not_so, neither, some_if, some_unless, none_if, fault_front, fault_at, none_at}
-
--- the number of a greatest delay that is there
-pub most_some : (ms : Members) (z : ℤ) (most : ℕ) → whole_at (codes "most") ms ≡ Some z
-    → Some most ≡ (if is_up_to (nano_limit - 1) (whole_or_zero (codes "most") ms) then Some (number_at (codes "most") ms) else None) → Some most ≡ most_at ms
-most_some ms z most there p =
-    let (_, most_is) = some_if (is_up_to (nano_limit - 1) (whole_or_zero (codes "most") ms)) most (number_at (codes "most") ms) p in
-    go (whole_at (codes "most") ms) there most_is
-  where
-    go : (o : Option ℤ) → o ≡ Some z → most ≡ nat_abs (unwrap_or o (pos 0)) → Some most ≡ option_map nat_abs o
-    go None e h = cc
-    go (Some y) e h = ap Some h
-
--- a greatest delay in its range
-pub most_made : (ms : Members) (most : Option ℕ) (most' : ℕ) → Some most' ≡ (if is_up_to (nano_limit - 1) (whole_or_zero (codes "most") ms) then Some (number_at (codes "most") ms) else None)
-    → most ≡ most_at ms → ◌≡◌ {A = Option (Option ℕ)} (Some most) (if is_up_to (nano_limit - 1) (whole_or_zero (codes "most") ms) then Some (most_at ms) else None)
-most_made ms most most' p e =
-    let (there, _) = some_if (is_up_to (nano_limit - 1) (whole_or_zero (codes "most") ms)) most' (number_at (codes "most") ms) p in
-    made _ _ _ there e
-  where
-    made : (b : Bool) (m m' : Option ℕ) → b ≡ true → m ≡ m' → ◌≡◌ {A = Option (Option ℕ)} (Some m) (if b then Some m' else None)
-    made b m m' h i = rw (h, i) refl
 
 -- what is wrong with names, an index and numbers
 none_wrong : (c : List Cause) (n w : Bool) → c ≡ [] → n ≡ false → w ≡ false → c ++ when n Name ++ when w Number ≡ []

@@ -10,7 +10,7 @@ use Rattle.decl.specs.Hosts.{HostLists, host_lists, addresses_from, addresses6_f
 use Rattle.decl.specs.Labels.{labels_of, labels_faults}
 use Rattle.decl.specs.Links.{links_of, links_faults}
 use Rattle.decl.specs.Places.{clock_place}
-use Rattle.decl.specs.Values.{flag_at, number_at, text_at}
+use Rattle.decl.specs.Values.{flag_at, number_at, optional_number, text_at}
 use Rattle.decl.specs.Walk.{declared, faults, hosts_in, labels_in, links_in, source_causes, top_causes}
 use Rattle.decl.specs.declared.cause.Cause.{Cause}
 use Rattle.decl.specs.declared.errors.DeclError.{DeclError}
@@ -50,8 +50,8 @@ module _ (ms : Members) (top : top_causes ms ≡ []) (hosts : Members) (hosts_ar
       empty a b c d e p q r s t = rw (p, q, r, s, t) refl
 
 -- what is read is what the document declares
-pub declared_is : (ms hosts labels : Members) (links : Items) (lists : HostLists) (clocks : List Clock) (owners : List Owner) (addresses : List Address) (addresses6 : List Address) (label_list : List Label) (link_list : List Link) (bytes : ℕ) (options fragments : Bool) (source : Option ℕ)
+pub declared_is : (ms hosts labels : Members) (links : Items) (lists : HostLists) (clocks : List Clock) (owners : List Owner) (addresses : List Address) (addresses6 : List Address) (label_list : List Label) (link_list : List Link) (bytes : ℕ) (options fragments : Bool) (window source : Option ℕ)
     → hosts ≡ hosts_in ms → labels ≡ labels_in ms → links ≡ links_in ms → lists ≡ host_lists hosts → clocks ≡ lists.clocks → owners ≡ lists.owners → addresses ≡ addresses_from 0 hosts → addresses6 ≡ addresses6_from 0 hosts → label_list ≡ labels_of lists labels
-    → link_list ≡ links_of lists.names links → bytes ≡ number_at (codes "payload_bytes") ms → options ≡ flag_at (codes "tcp_options") ms → fragments ≡ flag_at (codes "fragments") ms → source ≡ option_and_then (clock_place lists.clocks) (text_at (codes "source") ms)
-    → (let d : Declaration = record { hosts = lists.names; clocks = clocks; owners = owners; addresses = addresses; addresses6 = addresses6; labels = label_list; links = link_list; payload_bytes = bytes; tcp_options = options; fragments = fragments; source = source } in d) ≡ declared ms
-declared_is ms hosts labels links lists clocks owners addresses addresses6 label_list link_list bytes options fragments source p q r n c o t y u v w z f x = rw (c, o, t, y, u, v, w, z, f, x, n, p, q, r) refl
+    → link_list ≡ links_of lists.names links → bytes ≡ number_at (codes "payload_bytes") ms → options ≡ flag_at (codes "tcp_options") ms → fragments ≡ flag_at (codes "fragments") ms → window ≡ optional_number (codes "window") ms → source ≡ option_and_then (clock_place lists.clocks) (text_at (codes "source") ms)
+    → (let d : Declaration = record { hosts = lists.names; clocks = clocks; owners = owners; addresses = addresses; addresses6 = addresses6; labels = label_list; links = link_list; payload_bytes = bytes; tcp_options = options; fragments = fragments; window = window; source = source } in d) ≡ declared ms
+declared_is ms hosts labels links lists clocks owners addresses addresses6 label_list link_list bytes options fragments window source p q r n c o t y u v w z f i x = rw (c, o, t, y, u, v, w, z, f, i, x, n, p, q, r) refl

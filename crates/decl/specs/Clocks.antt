@@ -10,7 +10,7 @@ use Rattle.decl.specs.Keys.{table_causes, entry_causes, entry_table}
 use Rattle.decl.specs.Limits.{most_short, most_long, nano_limit}
 use Rattle.decl.specs.Names.{is_clock_name}
 use Rattle.decl.specs.Places.{clock_place}
-use Rattle.decl.specs.Values.{whole_at, whole_or_zero, number_at, is_up_to, items_or_none, text_or_empty}
+use Rattle.decl.specs.Values.{whole_at, whole_or_zero, number_at, is_up_to, is_within, items_or_none, text_or_empty}
 use Rattle.decl.specs.declared.cause.Cause.{Cause}
 use Rattle.decl.specs.declared.cause.Cause.TheVariants.{Name, Number}
 use Rattle.decl.specs.declared.items.Owner.{Owner}
@@ -38,6 +38,14 @@ has_wild_number own host =
 abbrev pub has_wild_gap : Members → Bool
 has_wild_gap own = not (is_up_to (nano_limit - 1) (whole_or_zero (codes "gap") own))
 
+-- the offset of a clock is out of its range
+abbrev pub has_wild_offset : Members → Members → Bool
+has_wild_offset own host = not (is_within (nano_limit - 1) (own_or_host (codes "offset") own host))
+
+-- the gap or the offset of a clock is
+abbrev pub has_wild_owner : Members → Members → Bool
+has_wild_owner own host = has_wild_gap own || has_wild_offset own host
+
 -- ---- one clock
 -- the rate of a clock
 abbrev pub rate_of : Members → Members → RateParts
@@ -51,6 +59,10 @@ clock_by_name name own host = record {
   early = own_number (codes "early") own host;
   late = own_number (codes "late") own host;
 }
+
+-- whose the clock is: the host's at this place
+abbrev pub owner_by : ℕ → Members → Members → Owner
+owner_by place own host = record { host = place; gap = number_at (codes "gap") own; offset = own_or_host (codes "offset") own host }
 
 -- the name that a clock's table gives it
 abbrev pub name_in : Members → List ℕ
@@ -68,7 +80,7 @@ have_no_room clocks = nat_le most_clocks (length clocks)
 abbrev pub clock_causes : Members → List Clock → Members → List Cause
 clock_causes host before own = table_causes form.Clock own
     ++ when (not (is_clock_name (name_in own)) || is_taken before (name_in own)) Name
-    ++ when (has_wild_number own host || has_wild_gap own || have_no_room before) Number
+    ++ when (has_wild_number own host || has_wild_owner own host || have_no_room before) Number
 
 -- ---- the clocks of a host
 -- the tables of a host's clocks
@@ -86,20 +98,20 @@ tables_causes host before no_items = []
 tables_causes host before (item d ds) = entry_causes (clock_causes host before) (as_table d)
     ++ tables_causes host (before ++ clock_by_name (name_in (entry_table d)) (entry_table d) host ∷ []) ds
 
--- the gaps in these tables
-abbrev pub table_gaps : Items → List ℕ
-table_gaps no_items = []
-table_gaps (item d ds) = number_at (codes "gap") (entry_table d) ∷ table_gaps ds
+-- whose the clocks of these tables are
+abbrev pub table_owners : ℕ → Members → Items → List Owner
+table_owners place host no_items = []
+table_owners place host (item d ds) = owner_by place (entry_table d) host ∷ table_owners place host ds
 
 -- the clocks of a host: those of its tables, or where there are none one clock of the host's own name and numbers
 abbrev pub clocks_by : List ℕ → Members → Items → List Clock
 clocks_by name host no_items = clock_by_name name no_members host ∷ []
 clocks_by name host (item d ds) = table_clocks host (item d ds)
 
--- their gaps
-abbrev pub gaps_by : Items → List ℕ
-gaps_by no_items = 0 ∷ []
-gaps_by (item d ds) = table_gaps (item d ds)
+-- whose they are
+abbrev pub owners_by : ℕ → Members → Items → List Owner
+owners_by place host no_items = owner_by place no_members host ∷ []
+owners_by place host (item d ds) = table_owners place host (item d ds)
 
 -- what is wrong with the clocks of a host, behind these clocks
 abbrev pub clocks_causes : List Clock → List ℕ → Members → Items → List Cause

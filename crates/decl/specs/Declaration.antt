@@ -1,5 +1,5 @@
 -- What a declaration says, and the rules that it meets.
-use Rattle.std.specs.Prelude.{◌≡◌, ◌≢◌, ℕ, Bool, ◌+◌, ◌<◌, ◌≤◌, ◌==◌, if◌then◌else◌, List, length, slice_get, Option, Some, None, option_to_list, IfSome, All, AllPairs}
+use Rattle.std.specs.Prelude.{◌≡◌, ◌≢◌, ℕ, Bool, ◌+◌, ◌<◌, ◌≤◌, ◌==◌, if◌then◌else◌, List, length, slice_get, Option, Some, None, option_map, option_to_list, unwrap_or, IfSome, All, AllPairs, ℤ, pos, nat_abs}
 use Rattle.std.specs.List.{flat_map, range_with_len}
 use Rattle.std.specs.Ordering.{nat_cmp}
 use Rattle.std.specs.declared.cmp.Ordering.TheVariants.{Less}
@@ -32,11 +32,12 @@ pub record Declaration : Type 0 where
   pub payload_bytes : ℕ
   pub tcp_options : Bool
   pub fragments : Bool
+  pub window : Option ℕ
   pub source : Option ℕ
 
 -- what the code's own declaration says
 abbrev pub declaration_of : Decl → Declaration
-declaration_of d = record { hosts = d.hosts.items; clocks = d.clocks.items; owners = d.owners.items; addresses = d.addresses; addresses6 = d.addresses6; labels = d.labels.items; links = d.links; payload_bytes = d.payload_bytes; tcp_options = d.tcp_options; fragments = d.fragments; source = d.source }
+declaration_of d = record { hosts = d.hosts.items; clocks = d.clocks.items; owners = d.owners.items; addresses = d.addresses; addresses6 = d.addresses6; labels = d.labels.items; links = d.links; payload_bytes = d.payload_bytes; tcp_options = d.tcp_options; fragments = d.fragments; window = d.window; source = d.source }
 
 -- a name comes before another in byte order
 abbrev pub Precedes : List ℕ → List ℕ → Type 0
@@ -67,12 +68,13 @@ pub record HasLawfulClocks (d : Declaration) : Type 0 where
   pub clocks_owned : length d.owners ≡ length d.clocks
   pub source_true : IfSome d.source (IsSource d.clocks)
 
--- clocks stand in the order of their hosts, each host has one or more, and gaps are in their range
+-- clocks stand in the order of their hosts, each host has one or more, and gaps and offsets are in their ranges
 pub record HasLawfulOwners (d : Declaration) : Type 0 where
   pub owner_hosts : All (λ o. o.host < length d.hosts) d.owners
   pub owners_rise : AllPairs (λ a b. a.host ≤ b.host) d.owners
   pub every_host : (host : ℕ) → host < length d.hosts → (clock : ℕ) × IsClockOf d.owners host clock
   pub gaps_fit : All (λ o. o.gap < nano_limit) d.owners
+  pub offsets_fit : All (λ o. nat_abs o.offset < nano_limit) d.owners
 
 -- no two addresses are the same, and each is one of a host
 pub record HasLawfulAddresses (d : Declaration) : Type 0 where
@@ -106,6 +108,7 @@ pub record KeepsLimits (d : Declaration) : Type 0 where
   pub label_limit : length d.labels ≤ most_entries
   pub link_limit : length d.links ≤ most_entries
   pub payload_limit : d.payload_bytes ≤ most_payload
+  pub window_limit : IfSome d.window (λ window. window < nano_limit)
 
 -- a declaration: each part of it is lawful, and it is not too large
 pub record IsDeclaration (d : Declaration) : Type 0 where
@@ -117,6 +120,10 @@ pub record IsDeclaration (d : Declaration) : Type 0 where
   pub labels : HasLawfulLabels d
   pub links : HasLawfulLinks d
   pub limits : KeepsLimits d
+
+-- what the clock at this place is roughly ahead of true time, in ns; 0 where there is none
+abbrev pub offset_of : Declaration → ℕ → ℤ
+offset_of d clock = unwrap_or (option_map (λ o. o.offset) (slice_get d.owners clock)) (pos 0)
 
 -- the follow from the clock at place k to the next one, where both are of one host, with the gap of the later one
 abbrev pub follow_between : ℕ → Option Owner → Option Owner → Option Follow

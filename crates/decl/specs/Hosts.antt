@@ -1,10 +1,10 @@
 -- What is wrong with hosts, and what they declare.
-use Rattle.std.specs.Prelude.{ℕ, ◌+◌, Bool, not, ◌||◌, nat_lt, List, [], ◌∷◌, ◌++◌, map, codes}
+use Rattle.std.specs.Prelude.{ℕ, ◌+◌, Bool, not, ◌||◌, nat_lt, List, [], ◌∷◌, ◌++◌, codes}
 use Rattle.problem_model.specs.declared.items.Clock.{Clock}
 use Rattle.toml.specs.Data.{Data, as_table, Members, no_members, member}
 use Rattle.decl.specs.Addresses.{Known, address_of, address6_of, at_host, has_bad_address, known_with, texts_of, written}
 use Rattle.decl.specs.Causes.{when, at}
-use Rattle.decl.specs.Clocks.{has_wild_number, clock_tables, clocks_by, gaps_by, clocks_causes}
+use Rattle.decl.specs.Clocks.{has_wild_number, has_wild_owner, clock_tables, clocks_by, owners_by, clocks_causes}
 use Rattle.decl.specs.Keys.{table_causes, entry_causes, entry_table}
 use Rattle.decl.specs.Limits.{most_entries}
 use Rattle.decl.specs.Names.{is_clock_name}
@@ -36,7 +36,7 @@ is_one_too_many index = nat_lt most_entries index
 -- table is empty
 abbrev pub own_causes : ℕ → Known → List ℕ → Members → List Cause
 own_causes index before name ms = table_causes form.Host ms ++ when (not (is_clock_name name)) Name
-    ++ when (is_one_too_many index || has_wild_number no_members ms) Number ++ when (has_wrong_address before ms) Address
+    ++ when (is_one_too_many index || has_wild_number no_members ms || has_wild_owner no_members ms) Number ++ when (has_wrong_address before ms) Address
 
 -- what is wrong with a host, and then with its clocks, behind these addresses and clocks of hosts before
 abbrev pub host_causes : ℕ → Known → List Clock → List ℕ → Members → List Cause
@@ -73,14 +73,14 @@ abbrev pub clocks_of : Members → List Clock
 clocks_of no_members = []
 clocks_of (member name d ms) = clocks_in name d ++ clocks_of ms
 
--- the owners of a host's clocks with these gaps
-abbrev pub owned_by : ℕ → List ℕ → List Owner
-owned_by host gaps = map (λ gap. record { host = host; gap = gap }) gaps
+-- whose the clocks of a host are
+abbrev pub owners_in : ℕ → Data → List Owner
+owners_in place d = owners_by place (entry_table d) (clock_tables (entry_table d))
 
 -- the owners of the clocks of hosts whose places count from this one on
 abbrev pub owners_from : ℕ → Members → List Owner
 owners_from place no_members = []
-owners_from place (member name d ms) = owned_by place (gaps_by (clock_tables (entry_table d))) ++ owners_from (place + 1) ms
+owners_from place (member name d ms) = owners_in place d ++ owners_from (place + 1) ms
 
 -- what labels may name: hosts, and their clocks
 pub record HostLists : Type 0 where

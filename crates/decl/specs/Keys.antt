@@ -13,9 +13,9 @@ use Rattle.decl.specs.declared.keys.Shape.TheVariants.{Whole, Text, Texts, Array
 
 -- the keys that a table of each form may have, with what their values have to be
 abbrev pub shapes : Form → List (List ℕ × Shape)
-shapes Document = (codes "hosts", Table) ∷ (codes "labels", Table) ∷ (codes "links", Array) ∷ (codes "payload_bytes", Whole) ∷ (codes "source", Text) ∷ (codes "tcp_options", Flag) ∷ (codes "fragments", Flag) ∷ []
-shapes Host = (codes "short", Whole) ∷ (codes "long", Whole) ∷ (codes "early", Whole) ∷ (codes "late", Whole) ∷ (codes "addresses", Texts) ∷ (codes "addresses6", Texts) ∷ (codes "clocks", Array) ∷ []
-shapes Clock = (codes "name", Text) ∷ (codes "short", Whole) ∷ (codes "long", Whole) ∷ (codes "early", Whole) ∷ (codes "late", Whole) ∷ (codes "gap", Whole) ∷ []
+shapes Document = (codes "hosts", Table) ∷ (codes "labels", Table) ∷ (codes "links", Array) ∷ (codes "payload_bytes", Whole) ∷ (codes "source", Text) ∷ (codes "tcp_options", Flag) ∷ (codes "fragments", Flag) ∷ (codes "window", Whole) ∷ []
+shapes Host = (codes "short", Whole) ∷ (codes "long", Whole) ∷ (codes "early", Whole) ∷ (codes "late", Whole) ∷ (codes "offset", Whole) ∷ (codes "addresses", Texts) ∷ (codes "addresses6", Texts) ∷ (codes "clocks", Array) ∷ []
+shapes Clock = (codes "name", Text) ∷ (codes "short", Whole) ∷ (codes "long", Whole) ∷ (codes "early", Whole) ∷ (codes "late", Whole) ∷ (codes "gap", Whole) ∷ (codes "offset", Whole) ∷ []
 shapes Label = (codes "host", Text) ∷ (codes "kind", Text) ∷ (codes "clock", Text) ∷ []
 shapes Link = (codes "from", Text) ∷ (codes "to", Text) ∷ (codes "least", Whole) ∷ (codes "most", Whole) ∷ []
 

@@ -1,5 +1,5 @@
 -- What is wrong with links, and what they declare.
-use Rattle.std.specs.Prelude.{ℕ, ◌+◌, ◌-◌, Bool, true, not, ◌&&◌, ◌||◌, ◌==◌, List, [], ◌∷◌, ◌++◌, codes, Option, Some, None, unwrap_or, option_map, nat_abs}
+use Rattle.std.specs.Prelude.{ℕ, ◌+◌, ◌-◌, Bool, true, not, ◌&&◌, ◌||◌, ◌==◌, List, [], ◌∷◌, ◌++◌, codes, Option, Some, None, unwrap_or}
 use Rattle.std.specs.List.{list_any}
 use Rattle.toml.specs.Data.{as_table, Items, no_items, item, Members}
 use Rattle.decl.specs.Causes.{when, at}
@@ -7,7 +7,7 @@ use Rattle.decl.specs.Hosts.{is_one_too_many}
 use Rattle.decl.specs.Keys.{table_causes, entry_causes, entry_table}
 use Rattle.decl.specs.Labels.{host_at_key}
 use Rattle.decl.specs.Limits.{nano_limit}
-use Rattle.decl.specs.Values.{whole_at, whole_or_zero, number_at, is_up_to}
+use Rattle.decl.specs.Values.{whole_or_zero, number_at, optional_number, is_up_to}
 use Rattle.decl.specs.declared.cause.Cause.{Cause}
 use Rattle.decl.specs.declared.cause.Cause.TheVariants.{Name, Number}
 use Rattle.decl.specs.declared.errors.DeclError.{DeclError}
@@ -37,7 +37,7 @@ link_causes hosts index before ms = table_causes form.Link ms
 
 -- the greatest delay of a link, if it has one
 abbrev pub most_at : Members → Option ℕ
-most_at ms = option_map nat_abs (whole_at (codes "most") ms)
+most_at ms = optional_number (codes "most") ms
 
 -- the link of a table
 abbrev pub link_of : List (List ℕ) → Members → Link

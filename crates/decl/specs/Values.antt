@@ -1,5 +1,5 @@
 -- What stands at the keys of a table.
-use Rattle.std.specs.Prelude.{ℕ, Bool, false, not, ◌&&◌, nat_le, List, [], Option, unwrap_or, option_and_then, ℤ, pos, int_lt, nat_abs}
+use Rattle.std.specs.Prelude.{ℕ, Bool, false, not, ◌&&◌, nat_le, List, [], Option, unwrap_or, option_map, option_and_then, ℤ, pos, int_lt, nat_abs}
 use Rattle.toml.specs.Data.{as_bool, as_str, as_integer, as_array, as_table, Items, no_items, Members, no_members, get_member}
 
 -- the whole number at a key, if one is there
@@ -42,6 +42,14 @@ table_or_empty key ms = unwrap_or (table_at key ms) no_members
 abbrev pub is_up_to : ℕ → ℤ → Bool
 is_up_to limit z = not (int_lt z (pos 0)) && nat_le (nat_abs z) limit
 
+-- the number is no further from 0 than a limit
+abbrev pub is_within : ℕ → ℤ → Bool
+is_within limit z = nat_le (nat_abs z) limit
+
 -- the number at a key, without its sign
 abbrev pub number_at : List ℕ → Members → ℕ
 number_at key ms = nat_abs (whole_or_zero key ms)
+
+-- the same, if one is there
+abbrev pub optional_number : List ℕ → Members → Option ℕ
+optional_number key ms = option_map nat_abs (whole_at key ms)

@@ -1,5 +1,5 @@
 -- What a document declares, and its first fault.
-use Rattle.std.specs.Prelude.{◌≡◌, ℕ, nat_lt, Bool, false, not, ◌&&◌, ◌==◌, if◌then◌else◌, List, [], ◌∷◌, ◌++◌, length, codes, slice_get, Option, Some, None, option_and_then, option_map}
+use Rattle.std.specs.Prelude.{◌≡◌, ℕ, ◌-◌, nat_lt, Bool, false, not, ◌&&◌, ◌||◌, ◌==◌, if◌then◌else◌, List, [], ◌∷◌, ◌++◌, length, codes, slice_get, Option, Some, None, option_and_then, option_map}
 use Rattle.std.specs.Str.{is_utf8}
 use Rattle.problem_model.specs.declared.items.Clock.{Clock}
 use Rattle.toml.specs.Data.{Items, Members}
@@ -10,10 +10,10 @@ use Rattle.decl.specs.Declaration.{Declaration}
 use Rattle.decl.specs.Hosts.{hosts_of, clocks_of, owners_from, host_lists, addresses_from, addresses6_from, hosts_faults}
 use Rattle.decl.specs.Keys.{table_causes}
 use Rattle.decl.specs.Labels.{labels_of, labels_faults}
-use Rattle.decl.specs.Limits.{most_document_bytes, most_payload}
+use Rattle.decl.specs.Limits.{most_document_bytes, most_payload, nano_limit}
 use Rattle.decl.specs.Links.{links_of, links_faults}
 use Rattle.decl.specs.Places.{clock_place}
-use Rattle.decl.specs.Values.{flag_at, whole_or_zero, number_at, is_up_to, text_at, table_or_empty, items_or_none}
+use Rattle.decl.specs.Values.{flag_at, whole_or_zero, number_at, optional_number, is_up_to, text_at, table_or_empty, items_or_none}
 use Rattle.decl.specs.declared.cause.Cause.{Cause}
 use Rattle.decl.specs.declared.cause.Cause.TheVariants.{Document, Number, Source, Size}
 use Rattle.decl.specs.declared.errors.DeclError.{DeclError}
@@ -47,9 +47,13 @@ abbrev pub source_causes : List Clock → Option (List ℕ) → List Cause
 source_causes clocks None = []
 source_causes clocks (Some name) = when (not (is_true_at clocks (clock_place clocks name))) Source
 
+-- some number at the document's own keys is out of its range
+abbrev pub has_wild_top : Members → Bool
+has_wild_top ms = not (is_up_to most_payload (whole_or_zero (codes "payload_bytes") ms)) || not (is_up_to (nano_limit - 1) (whole_or_zero (codes "window") ms))
+
 -- what is wrong with the document's own keys
 abbrev pub top_causes : Members → List Cause
-top_causes ms = table_causes form.Document ms ++ when (not (is_up_to most_payload (whole_or_zero (codes "payload_bytes") ms))) Number
+top_causes ms = table_causes form.Document ms ++ when (has_wild_top ms) Number
 
 -- all that is wrong with a document, in the order in which it is looked through
 abbrev pub faults : Members → List DeclError
@@ -72,6 +76,7 @@ declared ms = record {
   payload_bytes = number_at (codes "payload_bytes") ms;
   tcp_options = flag_at (codes "tcp_options") ms;
   fragments = flag_at (codes "fragments") ms;
+  window = optional_number (codes "window") ms;
   source = option_and_then (clock_place (clocks_of (hosts_in ms))) (text_at (codes "source") ms);
 }
 

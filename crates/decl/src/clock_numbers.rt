@@ -1,12 +1,13 @@
 // The numbers of a clock: those of its own table, or else of its host's.
-ghost use Rattle.std.specs.Prelude.{◌≡◌, ◌-◌, Some, None, if◌then◌else◌};
+ghost use Rattle.std.specs.Prelude.{◌≡◌, ◌-◌, Some, None, if◌then◌else◌, codes};
 ghost use Rattle.toml.specs.View.{table_view};
-ghost use Rattle.decl.specs.Clocks.{own_or_host, own_number, has_wild_rate, has_wild_number, rate_of, clock_by_name};
+ghost use Rattle.decl.specs.Clocks.{own_or_host, own_number, has_wild_rate, has_wild_number, has_wild_offset, has_wild_owner, rate_of, clock_by_name, owner_by};
 ghost use Rattle.decl.specs.Limits.{nano_limit};
 ghost use Rattle.decl.specs.Values.{is_up_to};
 
+use crate::Owner;
 use crate::limits::{MOST_LONG, MOST_SHORT, NANO_LIMIT};
-use crate::values::{up_to, whole_at, whole_or_zero};
+use crate::values::{nano_at, up_to, whole_at, whole_or_zero};
 use atto::{Nano, Rate};
 use problem_model::{Clock, Name};
 use toml::Table;
@@ -69,5 +70,34 @@ pub(crate) fn read_numbers(name: Name, own: &Table, host: &Table) -> Option<Cloc
         rate,
         early,
         late,
+    })
+}
+
+// What a clock is ahead of true time, in ns, if that lies between -2^62 and 2^62.
+fn read_offset(own: &Table, host: &Table) -> Option<i64>
+    ensures { result ≡ (if has_wild_offset (table_view own.now) (table_view host.now) then None else Some (own_or_host (codes "offset") (table_view own.now) (table_view host.now))) }
+{
+    let offset = own_or_host(own, host, "offset");
+    if offset.unsigned_abs() < NANO_LIMIT {
+        Some(offset)
+    } else {
+        None
+    }
+}
+
+// Whose a clock of the host at this place is, if its gap and its offset are in their ranges.
+pub(crate) fn read_owner(place: u32, own: &Table, host: &Table) -> Option<Owner>
+    ensures { result ≡ (if has_wild_owner (table_view own.now) (table_view host.now) then None else Some (owner_by place (table_view own.now) (table_view host.now))) }
+{
+    let Some(gap) = nano_at(own, "gap") else {
+        return None;
+    };
+    let Some(offset) = read_offset(own, host) else {
+        return None;
+    };
+    Some(Owner {
+        host: place,
+        gap,
+        offset,
     })
 }

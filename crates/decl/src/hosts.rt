@@ -4,23 +4,23 @@ ghost use Rattle.toml.specs.Data.{as_table, no_members};
 ghost use Rattle.toml.specs.View.{view, table_view};
 ghost use Rattle.decl.specs.Addresses.{address_of, address6_of, at_host, none_known, written};
 ghost use Rattle.decl.specs.Causes.{Tells, IsFirstOf, at, when};
-ghost use Rattle.decl.specs.Clocks.{clock_by_name, clock_tables, clocks_by, gaps_by, has_wild_number};
+ghost use Rattle.decl.specs.Clocks.{clock_by_name, clock_tables, clocks_by, has_wild_number, has_wild_owner, owner_by, owners_by};
 ghost use Rattle.decl.specs.Declaration.{Precedes};
-ghost use Rattle.decl.specs.Hosts.{address_texts, address6_texts, has_wrong_address, is_one_too_many, host_causes, hosts_faults, clocks_in, addresses_in, addresses6_in, owned_by, host_lists, addresses_from, addresses6_from};
+ghost use Rattle.decl.specs.Hosts.{address_texts, address6_texts, has_wrong_address, is_one_too_many, host_causes, hosts_faults, clocks_in, addresses_in, addresses6_in, owners_in, host_lists, addresses_from, addresses6_from};
 ghost use Rattle.decl.specs.Inside.{known_in, hosts_and_clocks, IsTurnOf};
-ghost use Rattle.decl.specs.Keys.{table_causes, entry_causes, entry_table};
+ghost use Rattle.decl.specs.Keys.{table_causes, entry_causes};
 ghost use Rattle.decl.specs.Limits.{most_entries};
 ghost use Rattle.decl.specs.Names.{is_clock_name};
 ghost use Rattle.decl.specs.declared.cause.Cause.TheVariants as cause;
 
 use crate::cause::Cause;
-use crate::clock_numbers::read_numbers;
+use crate::clock_numbers::{read_numbers, read_owner};
 use crate::clock_tables::read_clocks;
 use crate::clocks::ClockBook;
 use crate::keys::{Form, check_table};
 use crate::limits::MOST_ENTRIES;
 use crate::values::items_or_none;
-use crate::{Addresses, DeclError, IpVersion, Section};
+use crate::{Addresses, DeclError, IpVersion, Owner, Section};
 use problem_model::{Clock, Name};
 use std::alloc::{AllocError, Global};
 use toml::{Table, Value};
@@ -53,11 +53,12 @@ pub(crate) fn read_clock_name(text: &[u8]) -> Option<Name>
     }
 }
 
-// The clock that a host with this index and name has by its own numbers.
-fn read_own(index: u32, name: &str, table: &Table, empty: &Table) -> Result<Clock, Cause>
-    requires { table_view empty.now ≡ no_members }
-    ensures { Tells (table_causes Form.Host (table_view table.now) ++ when (not (is_clock_name name.now)) cause.Name ++ when (is_one_too_many index || has_wild_number no_members (table_view table.now)) cause.Number)
-        (clock_by_name name.now no_members (table_view table.now)) result }
+// The clock that a host with this index and name has by its own numbers, and whose it is.
+fn read_own(index: u32, name: &str, table: &Table, empty: &Table) -> Result<(Clock, Owner), Cause>
+    requires first { 1 ≤ index }
+    requires empty { table_view empty.now ≡ no_members }
+    ensures { Tells (table_causes Form.Host (table_view table.now) ++ when (not (is_clock_name name.now)) cause.Name ++ when (is_one_too_many index || has_wild_number no_members (table_view table.now) || has_wild_owner no_members (table_view table.now)) cause.Number)
+        (clock_by_name name.now no_members (table_view table.now), owner_by (index - 1) no_members (table_view table.now)) result }
 {
     check_table(Form::Host, table)?;
     let Some(name) = read_clock_name(name.as_bytes()) else {
@@ -66,10 +67,13 @@ fn read_own(index: u32, name: &str, table: &Table, empty: &Table) -> Result<Cloc
     if index > MOST_ENTRIES {
         return Err(Cause::Number);
     }
-    match read_numbers(name, empty, table) {
-        Some(clock) => Ok(clock),
-        None => Err(Cause::Number),
-    }
+    let Some(clock) = read_numbers(name, empty, table) else {
+        return Err(Cause::Number);
+    };
+    let Some(owner) = read_owner(index - 1, empty, table) else {
+        return Err(Cause::Number);
+    };
+    Ok((clock, owner))
 }
 
 // Adds the addresses of the host at this place to those of hosts before; false exactly where one of them is misspelled, or
@@ -105,19 +109,19 @@ fn read_table(
     ensures sound { OnOk result (host_causes index (known_in books.old) books.old.clocks.clocks name.now (table_view table.now) ≡ []) }
     ensures named { IfOk result (λ own. own ≡ name.now) }
     ensures clocks { OnOk result (books.new.clocks.clocks ≡ books.old.clocks.clocks ++ clocks_by name.now (table_view table.now) (clock_tables (table_view table.now))) }
-    ensures owners { OnOk result (books.new.clocks.owners ≡ books.old.clocks.owners ++ owned_by (index - 1) (gaps_by (clock_tables (table_view table.now)))) }
+    ensures owners { OnOk result (books.new.clocks.owners ≡ books.old.clocks.owners ++ owners_by (index - 1) (table_view table.now) (clock_tables (table_view table.now))) }
     ensures booked { OnOk result (books.new.narrow ≡ books.old.narrow ++ at_host (index - 1) (written address_of (address_texts (table_view table.now)))) }
     ensures booked6 { OnOk result (books.new.wide ≡ books.old.wide ++ at_host (index - 1) (written address6_of (address6_texts (table_view table.now)))) }
     ensures fault { IfErr result (λ e. IsFirstOf (at Section.Hosts index (host_causes index (known_in books.old) books.old.clocks.clocks name.now (table_view table.now))) e) }
 {
-    let clock = match read_own(index, name, table, empty) {
-        Ok(clock) => clock,
+    let (clock, owner) = match read_own(index, name, table, empty) {
+        Ok(own) => own,
         Err(cause) => return Err(cause.at(Section::Hosts, index)),
     };
     if !read_addresses(index - 1, table, books)? {
         return Err(Cause::Address.at(Section::Hosts, index));
     }
-    match read_clocks(index, clock, table, &mut books.clocks) {
+    match read_clocks(index, clock, owner, table, &mut books.clocks) {
         Ok(()) => Ok(clock.name),
         Err(e) => Err(e),
     }
@@ -137,7 +141,7 @@ fn read_host(
     ensures sound { OnOk result (entry_causes (host_causes index (known_in books.old) books.old.clocks.clocks name.now) (as_table (view value.now)) ≡ []) }
     ensures named { IfOk result (λ own. own ≡ name.now) }
     ensures clocks { OnOk result (books.new.clocks.clocks ≡ books.old.clocks.clocks ++ clocks_in name.now (view value.now)) }
-    ensures owners { OnOk result (books.new.clocks.owners ≡ books.old.clocks.owners ++ owned_by (index - 1) (gaps_by (clock_tables (entry_table (view value.now))))) }
+    ensures owners { OnOk result (books.new.clocks.owners ≡ books.old.clocks.owners ++ owners_in (index - 1) (view value.now)) }
     ensures booked { OnOk result (books.new.narrow ≡ books.old.narrow ++ at_host (index - 1) (addresses_in (view value.now))) }
     ensures booked6 { OnOk result (books.new.wide ≡ books.old.wide ++ at_host (index - 1) (addresses6_in (view value.now))) }
     ensures fault { IfErr result (λ e. IsFirstOf (at Section.Hosts index (entry_causes (host_causes index (known_in books.old) books.old.clocks.clocks name.now) (as_table (view value.now)))) e) }

@@ -30,6 +30,9 @@ pub struct Decl {
     pub tcp_options: bool,
     /// Whether fragments have keys, and packets of IPv6 behind extension headers.
     pub fragments: bool,
+    /// How far apart in ns, below 2^62, neighbouring events of one key lie at most so that they are taken to belong
+    /// together; None where it is not said.
+    pub window: Option<Nano>,
     /// The place of the clock that shows true time, if one is said to: it is never short or long.
     pub source: Option<u32>,
 }
@@ -42,6 +45,8 @@ pub struct Owner {
     /// The least real time in ns from a reading of the clock before it of the same host, or of one before that, to one of
     /// this clock; it has no effect at a host's first clock.
     pub gap: Nano,
+    /// What the clock is roughly ahead of true time, in ns, between -2^62 and 2^62; below 0 where it is behind.
+    pub offset: i64,
 }
 
 /// A version of the internet protocol. Addresses of different versions are never the same.

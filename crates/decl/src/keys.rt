@@ -59,7 +59,7 @@ fn document_shape(key: &str) -> Option<Shape>
     match key {
         "hosts" | "labels" => Some(Shape::Table),
         "links" => Some(Shape::Array),
-        "payload_bytes" => Some(Shape::Whole),
+        "payload_bytes" | "window" => Some(Shape::Whole),
         "source" => Some(Shape::Text),
         "tcp_options" | "fragments" => Some(Shape::Flag),
         _ => None,
@@ -70,7 +70,7 @@ fn host_shape(key: &str) -> Option<Shape>
     ensures { result ≡ shape_of Form.Host key.now }
 {
     match key {
-        "short" | "long" | "early" | "late" => Some(Shape::Whole),
+        "short" | "long" | "early" | "late" | "offset" => Some(Shape::Whole),
         "addresses" | "addresses6" => Some(Shape::Texts),
         "clocks" => Some(Shape::Array),
         _ => None,
@@ -82,7 +82,7 @@ fn clock_shape(key: &str) -> Option<Shape>
 {
     match key {
         "name" => Some(Shape::Text),
-        "short" | "long" | "early" | "late" | "gap" => Some(Shape::Whole),
+        "short" | "long" | "early" | "late" | "gap" | "offset" => Some(Shape::Whole),
         _ => None,
     }
 }

@@ -10,13 +10,14 @@
 //! | `payload_bytes` | a whole number from 0 to 64; 0 where it is not there |
 //! | `source` | the name of a clock that shows true time |
 //! | `tcp_options` | true or false; false where it is not there |
+//! | `window` | in ns below 2^62: how far apart neighbouring events of one key lie at most so that they are taken to belong together; without it, any are |
 //!
 //! All may be left out, and there is no other key.
 //!
 //! | Entry | Its keys |
 //! |---|---|
-//! | host | `short` (at most 999,999,999) and `long` (at most 1,000,000,000), in parts per billion, and `early` and `late`, in ns below 2^62: 0 where they are not there. `addresses`: an array of IPv4 addresses, each four decimals with points between and no zeros in front. `addresses6`: an array of IPv6 addresses, each eight groups of one to four hexadecimal digits, of either case, with colons between. `clocks`: an array with a table for each clock of the host, in the order in which they followed each other |
-//! | clock | `name`: a text, which it has. `short`, `long`, `early` and `late`, as of a host: the host's where they are not there. `gap`, in ns below 2^62: the least real time from each reading of the clocks before it to one of this clock, 0 where it is not there; it has no effect at a host's first clock |
+//! | host | `short` (at most 999,999,999) and `long` (at most 1,000,000,000), in parts per billion, and `early` and `late`, in ns below 2^62: 0 where they are not there. `offset`, in ns between -2^62 and 2^62: what its clocks are roughly ahead of true time, 0 where it is not there. `addresses`: an array of IPv4 addresses, each four decimals with points between and no zeros in front. `addresses6`: an array of IPv6 addresses, each eight groups of one to four hexadecimal digits, of either case, with colons between. `clocks`: an array with a table for each clock of the host, in the order in which they followed each other |
+//! | clock | `name`: a text, which it has. `short`, `long`, `early`, `late` and `offset`, as of a host: the host's where they are not there. `gap`, in ns below 2^62: the least real time from each reading of the clocks before it to one of this clock, 0 where it is not there; it has no effect at a host's first clock |
 //! | trace | `host`: a host's name; `kind`: `capture` or `log`. It has both. `clock`: the name of the host's clock that it was stamped by, its first one where it is not there |
 //! | link | `from` and `to`: hosts' names, which may be the same. It has both. `least` and `most`, in ns below 2^62: 0 and no limit where they are not there |
 //!
@@ -26,7 +27,7 @@
 //! hosts and then as they were written.
 //!
 //! A declaration that is refused is looked through in this order: its size; whether it is a document; its own keys, their
-//! values' shapes, the payload; then host by host, trace by trace and link by link; at last the source. A host is looked through
+//! values' shapes, their numbers; then host by host, trace by trace and link by link; at last the source. A host is looked through
 //! by table, keys, shapes of values, name, numbers and its index, addresses, and then clock by clock, each by table, keys,
 //! shapes, name, numbers and how many clocks there are; a trace and a link by table, keys, shapes, names, numbers and its index.
 #![tactic(auto)]

@@ -8,14 +8,13 @@ ghost use Rattle.decl.specs.Firsts.{bounds_among};
 ghost use Rattle.decl.specs.Keys.{entry_causes, entry_table};
 ghost use Rattle.decl.specs.Labels.{host_at_key};
 ghost use Rattle.decl.specs.Limits.{most_entries, nano_limit};
-ghost use Rattle.decl.specs.Links.{has_link, is_astray, most_at, link_causes, link_of, links_faults, links_of};
-ghost use Rattle.decl.specs.Values.{is_up_to, whole_or_zero};
+ghost use Rattle.decl.specs.Links.{has_link, is_astray, link_causes, link_of, links_faults, links_of};
 
 use crate::cause::Cause;
 use crate::keys::{Form, check_table};
 use crate::labels::host_at_key;
 use crate::limits::MOST_ENTRIES;
-use crate::values::{nano_at, whole_at};
+use crate::values::{nano_at, optional_nano};
 use crate::{DeclError, Link, Section};
 use atto::Nano;
 use problem_model::Name;
@@ -128,19 +127,6 @@ fn read_ends(hosts: &[Name], book: &Links, table: &Table) -> Option<(u32, u32)>
     Some((from, to))
 }
 
-// The greatest delay of a link, if it has one, if that is in its range.
-fn read_most(table: &Table) -> Option<Option<Nano>>
-    ensures { result ≡ (if is_up_to (nano_limit - 1) (whole_or_zero (codes "most") (table_view table.now)) then Some (most_at (table_view table.now)) else None) }
-{
-    let Some(most) = nano_at(table, "most") else {
-        return None;
-    };
-    match whole_at(table, "most") {
-        Some(_) => Some(Some(most)),
-        None => Some(None),
-    }
-}
-
 // The link with this index.
 fn read_link(hosts: &[Name], book: &Links, index: u32, table: &Table) -> Result<Link, Cause>
     requires rising { AllPairs Precedes hosts.now }
@@ -157,7 +143,7 @@ fn read_link(hosts: &[Name], book: &Links, index: u32, table: &Table) -> Result<
     let Some(least) = nano_at(table, "least") else {
         return Err(Cause::Number);
     };
-    let Some(most) = read_most(table) else {
+    let Some(most) = optional_nano(table, "most") else {
         return Err(Cause::Number);
     };
     Ok(Link {

@@ -5,7 +5,7 @@ ghost use Rattle.problem_model.specs.Name.{IsClockName};
 ghost use Rattle.decl.specs.Causes.{Tells, IsFirstOf};
 ghost use Rattle.decl.specs.Declaration.{declaration_of, IsDeclaration};
 ghost use Rattle.decl.specs.Places.{clock_place};
-ghost use Rattle.decl.specs.Values.{number_at, text_at};
+ghost use Rattle.decl.specs.Values.{number_at, optional_number, text_at};
 ghost use Rattle.decl.specs.Walk.{IsDocumentOf, IsFirstFault, declared, faults, is_true_at, shows_true, source_causes, top_causes};
 
 use crate::cause::Cause;
@@ -15,21 +15,25 @@ use crate::keys::{Form, check_table};
 use crate::labels::read_labels;
 use crate::limits::{MOST_BYTES, MOST_PAYLOAD};
 use crate::links::read_links;
-use crate::values::{flag_at, items_or_none, number_up_to, table_or_empty, text_at};
+use crate::values::{flag_at, items_or_none, number_up_to, optional_nano, table_or_empty, text_at};
 use crate::{Decl, DeclError, Section};
+use atto::Nano;
 use problem_model::Clock;
 use std::alloc::Global;
 use toml::Table;
 
-// Looks through the document's own keys; how many bytes of a payload tell a packet.
-fn read_top(table: &Table) -> Result<u8, Cause>
-    ensures { Tells (top_causes (table_view table.now)) (number_at (codes "payload_bytes") (table_view table.now)) result }
+// Looks through the document's own keys; how many bytes of a payload tell a packet, and the window.
+fn read_top(table: &Table) -> Result<(u8, Option<Nano>), Cause>
+    ensures { Tells (top_causes (table_view table.now)) (number_at (codes "payload_bytes") (table_view table.now), optional_number (codes "window") (table_view table.now)) result }
 {
     check_table(Form::Document, table)?;
-    match number_up_to(table, "payload_bytes", MOST_PAYLOAD) {
-        Some(bytes) => Ok(bytes as u8),
-        None => Err(Cause::Number),
-    }
+    let Some(bytes) = number_up_to(table, "payload_bytes", MOST_PAYLOAD) else {
+        return Err(Cause::Number);
+    };
+    let Some(window) = optional_nano(table, "window") else {
+        return Err(Cause::Number);
+    };
+    Ok((bytes as u8, window))
 }
 
 fn shows_true(clock: &Clock) -> bool
@@ -85,8 +89,8 @@ fn read_document(alloc: Global, table: &Table) -> Result<Decl, DeclError>
     ensures declared { IfOk result (λ d. declaration_of d ≡ declared (table_view table.now)) }
     ensures lawful { IfOk result (λ d. IsDeclaration (declaration_of d)) }
 {
-    let payload_bytes = match read_top(table) {
-        Ok(bytes) => bytes,
+    let (payload_bytes, window) = match read_top(table) {
+        Ok(top) => top,
         Err(cause) => return Err(cause.at(Section::Top, 0)),
     };
     let empty = Table::new(alloc);
@@ -118,6 +122,7 @@ fn read_document(alloc: Global, table: &Table) -> Result<Decl, DeclError>
         payload_bytes,
         tcp_options: flag_at(table, "tcp_options"),
         fragments: flag_at(table, "fragments"),
+        window,
         source,
     })
 }

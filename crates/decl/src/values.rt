@@ -3,7 +3,7 @@ ghost use Rattle.std.specs.Prelude.{◌≡◌, ◌-◌, Some, None, Option, opti
 ghost use Rattle.toml.specs.Data.{get_member, no_members};
 ghost use Rattle.toml.specs.View.{view, table_view, array_view, items_view};
 ghost use Rattle.decl.specs.Limits.{nano_limit};
-ghost use Rattle.decl.specs.Values.{flag_at, whole_at, whole_or_zero, text_at, text_or_empty, table_or_empty, array_at, items_or_none, is_up_to, number_at};
+ghost use Rattle.decl.specs.Values.{flag_at, whole_at, whole_or_zero, text_at, text_or_empty, table_or_empty, array_at, items_or_none, is_up_to, number_at, optional_number};
 
 use crate::limits::NANO_LIMIT;
 use atto::Nano;
@@ -125,5 +125,18 @@ pub(crate) fn nano_at(table: &Table, key: &str) -> Option<Nano>
     match number_up_to(table, key, NANO_LIMIT - 1) {
         Some(n) => Nano::new(n),
         None => None,
+    }
+}
+
+// The number of ns at a key, if one is there, where that is below 2^62.
+pub(crate) fn optional_nano(table: &Table, key: &str) -> Option<Option<Nano>>
+    ensures { result ≡ (if is_up_to (nano_limit - 1) (whole_or_zero key.now (table_view table.now)) then Some (optional_number key.now (table_view table.now)) else None) }
+{
+    let Some(number) = nano_at(table, key) else {
+        return None;
+    };
+    match whole_at(table, key) {
+        Some(_) => Some(Some(number)),
+        None => Some(None),
     }
 }

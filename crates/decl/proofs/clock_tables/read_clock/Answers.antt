@@ -7,9 +7,9 @@ pub returns-in_default-read_numbers : goal.returns-in_default-read_numbers
 returns-in_default-read_numbers c =
     table_wild (table_view c.args.host.now) (table_view c.args.own.now) c.args.book.now.clocks c.in-Some.name c.in_ok-check_table.ensures.0 c.in-Some.ensures c.in_default-read_numbers.ensures
 
-pub returns-in_default-nano_at : goal.returns-in_default-nano_at
-returns-in_default-nano_at c =
-    table_apart (table_view c.args.host.now) (table_view c.args.own.now) c.args.book.now.clocks c.in-Some.name c.in_ok-check_table.ensures.0 c.in-Some.ensures c.in_default-nano_at.ensures
+pub returns-in_default-read_owner : goal.returns-in_default-read_owner
+returns-in_default-read_owner c =
+    table_apart (table_view c.args.host.now) (table_view c.args.own.now) c.args.book.now.clocks c.in-Some.name c.in_ok-check_table.ensures.0 c.in-Some.ensures (c.args.index - 1) c.in_default-read_owner.ensures
 
 pub returns-then-is_full : goal.returns-then-is_full
 returns-then-is_full c =
@@ -18,4 +18,4 @@ returns-then-is_full c =
 pub returns : goal.returns
 returns c =
     table_sound (table_view c.args.host.now) (table_view c.args.own.now) c.args.book.now.clocks c.in-Some.name c.in_ok-check_table.ensures.0 c.in-Some.ensures c.in-Some-read_numbers.clock
-    (c.args.index - 1) c.in-Some-nano_at.gap c.in-Some-read_numbers.ensures c.in-Some-nano_at.ensures (search rules)
+    (c.args.index - 1) c.in-Some-read_owner.owner c.in-Some-read_numbers.ensures c.in-Some-read_owner.ensures (search rules)

@@ -1,11 +1,11 @@
-use Rattle.std.proofs.Common.{◌≡◌, ℕ, ◌-◌, ◌<◌, ◌++◌, List, [], length, subst, rules}
+use Rattle.std.proofs.Common.{◌≡◌, ◌-◌, ◌<◌, ◌++◌, List, [], length, subst, rules}
 use Rattle.std.specs.Prelude.{OnOk}
 use Rattle.problem_model.specs.declared.items.Clock.{Clock}
 use Rattle.toml.specs.View.{table_view}
 use Rattle.decl.specs.Clocks.{clock_tables}
-use Rattle.decl.specs.Hosts.{owned_by}
+use Rattle.decl.specs.declared.items.Owner.{Owner}
 use Rattle.decl.specs.declared.cause.Cause.{Cause}
-use Rattle.decl.proofs.ClockTurns.{tabled_causes, tabled_clocks, tabled_gaps}
+use Rattle.decl.proofs.ClockTurns.{tabled_causes, tabled_clocks, tabled_owners}
 use Rattle.decl.proofs.clock_tables.read_clocks.Goals as goal
 
 pub returns-else-is_empty-clause-sound : goal.returns-else-is_empty-clause-sound
@@ -26,5 +26,5 @@ pub returns-else-is_empty-clause-owners : goal.returns-else-is_empty-clause-owne
 returns-else-is_empty-clause-owners c =
     let host = table_view c.args.host.now in
     let some : 0 < length c.items_or_none-values.result.now = search rules in
-    subst (λ (gaps : List ℕ). OnOk c.add_clocks.result (c.add_clocks.new.book.owners ≡ c.args.book.now.owners ++ owned_by (c.args.index - 1) gaps))
-    (tabled_gaps c.args.book.now.clocks c.args.clock.name host c.items_or_none-values.result.now (clock_tables host) some c.items_or_none-values.ensures) c.add_clocks.ensures.owners
+    subst (λ (owners : List Owner). OnOk c.add_clocks.result (c.add_clocks.new.book.owners ≡ c.args.book.now.owners ++ owners))
+    (tabled_owners c.args.book.now.clocks c.args.clock.name host c.items_or_none-values.result.now (clock_tables host) some c.items_or_none-values.ensures (c.args.index - 1)) c.add_clocks.ensures.owners

@@ -38,7 +38,7 @@ loop-name-preserved c =
       owned = host_owners_on _ now.index (now.index + 1 - 1) now.books.clocks.owners new.clocks.owners now.name-iterator c.next.new.self name value now.invariant.owned next place c.in-Ok.ensures.owners;
       booked = addresses_on _ now.index (now.index + 1 - 1) now.books.narrow new.narrow now.name-iterator c.next.new.self name value now.invariant.booked next place c.in-Ok.ensures.booked;
       booked6 = addresses6_on _ now.index (now.index + 1 - 1) now.books.wide new.wide now.name-iterator c.next.new.self name value now.invariant.booked6 next place c.in-Ok.ensures.booked6;
-      turn = turn_next now.books.clocks.owners new.clocks.owners now.index (now.index + 1 - 1) (clock_tables (entry_table (view value))) place c.in-Ok.ensures.owners now.invariant.turn;
+      turn = turn_next now.books.clocks.owners new.clocks.owners now.index (now.index + 1 - 1) (entry_table (view value)) (clock_tables (entry_table (view value))) place c.in-Ok.ensures.owners now.invariant.turn;
       counted = omega (arith, now.invariant.counted, ap length named, length-append now.names.items (string_bytes name ∷ []));
       few = host_few (now.index + 1) (known_in now.books) now.books.clocks.clocks (string_bytes name) (as_table (view value)) sound;
     }

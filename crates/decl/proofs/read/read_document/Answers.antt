@@ -1,4 +1,4 @@
-use Rattle.std.proofs.Common.{◌≡◌, List, [], ap, subst, sym, refl, ◌∙◌}
+use Rattle.std.proofs.Common.{◌≡◌, ℕ, List, [], Option, ap, subst, sym, refl, ◌∙◌}
 use Rattle.std.specs.Prelude.{All}
 use Rattle.toml.specs.View.{items_view, table_view}
 use Rattle.problem_model.specs.Name.{IsClockName}
@@ -51,6 +51,6 @@ returns-clause-lawful c =
     let labels_are : c.in-Ok-read_labels.labels.items ≡ labels_of (host_lists (hosts_in ms)) (labels_in ms) = labelled.labels ∙ rw (lists_are, c.table_or_empty-2.ensures) refl in
     let none : faults ms ≡ [] = no_faults ms c.in-Ok.ensures.0 hosts c.table_or_empty.ensures known.sound lists known.lists labels c.table_or_empty-2.ensures labelled.sound links c.items_or_none.ensures linked source.0 in
     let is =
-    declared_is ms hosts labels links lists c.into_lists-clocks.result.0.items c.into_lists-clocks.result.1.items c.in-Ok-read_hosts.hosts.addresses c.in-Ok-read_hosts.hosts.addresses6 c.in-Ok-read_labels.labels.items c.in-Ok-read_links.links c.in-Ok.bytes c.flag_at.result c.flag_at-2.result c.in-Ok-read_source.source
-    c.table_or_empty.ensures c.table_or_empty-2.ensures c.items_or_none.ensures known.lists c.into_lists-clocks.ensures.clocks c.into_lists-clocks.ensures.owners known.addresses known.addresses6 labelled.labels link_list c.in-Ok.ensures.1 c.flag_at.ensures c.flag_at-2.ensures source.1 in
+    declared_is ms hosts labels links lists c.into_lists-clocks.result.0.items c.into_lists-clocks.result.1.items c.in-Ok-read_hosts.hosts.addresses c.in-Ok-read_hosts.hosts.addresses6 c.in-Ok-read_labels.labels.items c.in-Ok-read_links.links c.in-Ok.top.0 c.flag_at.result c.flag_at-2.result c.in-Ok.top.1 c.in-Ok-read_source.source
+    c.table_or_empty.ensures c.table_or_empty-2.ensures c.items_or_none.ensures known.lists c.into_lists-clocks.ensures.clocks c.into_lists-clocks.ensures.owners known.addresses known.addresses6 labelled.labels link_list (ap (λ (t : ℕ × Option ℕ). t.0) c.in-Ok.ensures.1) c.flag_at.ensures c.flag_at-2.ensures (ap (λ (t : ℕ × Option ℕ). t.1) c.in-Ok.ensures.1) source.1 in
     subst IsDeclaration (sym is) (lawful ms (subst Rise (ap (λ (l : HostLists). l.names) lists_are) known.rising) (subst RiseLabels labels_are labelled.rising) none)
