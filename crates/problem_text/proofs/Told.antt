@@ -16,11 +16,14 @@ use Rattle.traces.specs.Seen.{EventKey, SeenMark, Keyed, Unkeyed, Seen}
 use Rattle.traces.specs.declared.event_id.EventId.{EventId}
 use Rattle.traces.specs.declared.event_id.Couple.{Couple}
 use Rattle.traces.specs.Traces.{Placed, events_of, host_of, name_of}
-use Rattle.traces.specs.Messages.{event_with, linked, messages_of, only_two, place_of, problem_of_seen, sent_by, with_mark}
+use Rattle.traces.specs.Windows.{by_group, grouped, keys_among}
+use Rattle.traces.specs.Messages.{couples_of, event_with, linked, messages_of, only_two, place_of, problem_of_seen, sent_by, with_mark}
+use Rattle.traces.proofs.CoupleEnds.{couple_pair}
+use Rattle.traces.proofs.Grouped.{group_in, grouped_differ}
 use Rattle.traces.proofs.Ids.{ids_differ}
 use Rattle.traces.proofs.Marks.{event_one, only_from, only_to}
 use Rattle.traces.proofs.Members.{given_by, head_or_tail, none_in}
-use Rattle.traces.proofs.MessageEnds.{ends_known, pair_from}
+use Rattle.traces.proofs.MessageEnds.{ends_known}
 use Rattle.traces.proofs.Lists.{got}
 use Rattle.traces.proofs.Places.{stands}
 use Rattle.roster.specs.declared.came.Came.{Came}
@@ -58,16 +61,20 @@ sent_own events e m among' held = go e.seen.mark refl held
     go (Unkeyed reason) marked held = absurd (none_in m held)
     go (Keyed key side) marked held = by_side key side marked held
 
--- where ids differ, a message is all that its sender sends
-all_sent : (events : List Placed) (e : Placed) (m : Couple) → AllPairs (λ (a b : Placed). a.id ≢ b.id) events → Contains events e → Contains (messages_of events) m → m.send ≡ e.id → sent_by events e.seen.mark ≡ m ∷ []
+-- where ids differ, a couple is all that its sender sends
+all_sent : (events : List Placed) (e : Placed) (m : Couple) → AllPairs (λ (a b : Placed). a.id ≢ b.id) events → Contains events e → Contains (couples_of events) m → m.send ≡ e.id → sent_by events e.seen.mark ≡ m ∷ []
 all_sent events e m differ among' held same =
-    let pair = pair_from events m held in
+    let pair = couple_pair events m held in
     let sender : pair.sender ≡ e = event_one events pair.sender e differ pair.sends.among among' (sym (ap (λ (c : Couple). c.send) pair.is) ∙ same) in
     let mark : e.seen.mark ≡ Keyed pair.key Send = sym (ap (λ (o : Placed). o.seen.mark) sender) ∙ pair.sends.marked in
     ap (sent_by events) mark
     ∙ ap (λ (xs : List Placed). only_two xs (with_mark pair.key Receive events)) (only_to events pair.key Send pair.sender differ pair.sends)
     ∙ ap (λ (ys : List Placed). only_two (pair.sender ∷ []) ys) (only_to events pair.key Receive pair.receiver differ pair.receives)
     ∙ ap (λ (c : Couple). c ∷ []) (sym pair.is)
+
+-- what an event sends, by its group
+abbrev sent_in_group : List Placed → Placed → List Couple
+sent_in_group events e = sent_by (grouped events) (by_group (keys_among events) e).seen.mark
 
 -- ---- the line of a message
 name_there : (d : Declaration) (events : List Event) (k : ℕ) (e : Event) → slice_get events k ≡ Some e → event_name events k ≡ e.name
@@ -113,16 +120,16 @@ module _ (r : RosterLists) (is : IsRoster r) (seen : List (List Seen)) (holds : 
       ap (id_by r is) (sym number ∙ ap (λ (i : EventId). number_of r.under i) same) ∙ held_id r is seen holds e held ∙ sym same
 
   sent_at : (k v node : ℕ) (e : Placed) (x : Came) (o : Option Partner) → slice_get {X = ℕ × ℕ} (listed r).events k ≡ Some (v, node) → slice_get (events_of seen) k ≡ Some e → slice_get r.came v ≡ Some x → x.partner ≡ o
-      → partner_line r (id_by r is v) o ≡ flat_map line_of_couple (sent_by (events_of seen) e.seen.mark)
+      → partner_line r (id_by r is v) o ≡ flat_map line_of_couple (sent_in_group (events_of seen) e)
   unfolding line_of_couple
   sent_at k v node e x None at at' came told =
       let held : Contains (events_of seen) e = among (events_of seen) k e at' in
       let id : id_by r is v ≡ e.id = same_id r is seen holds k v node e at at' in
-      let nothing : sent_by (events_of seen) e.seen.mark ≡ [] =
-      none_of (sent_by (events_of seen) e.seen.mark)
+      let nothing : sent_in_group (events_of seen) e ≡ [] =
+      none_of (sent_in_group (events_of seen) e)
       (λ m sent.
-      let own : m.send ≡ e.id = sent_own (events_of seen) e m held sent in
-      let message : Contains (messages_of (events_of seen)) m = given_by (λ (y : Placed). sent_by (events_of seen) y.seen.mark) (events_of seen) e m held sent in
+      let own : m.send ≡ e.id = sent_own (grouped (events_of seen)) (by_group (keys_among (events_of seen)) e) m (group_in (events_of seen) e held) sent in
+      let message : Contains (messages_of (events_of seen)) m = given_by (λ (y : Placed). sent_by (grouped (events_of seen)) y.seen.mark) (grouped (events_of seen)) (by_group (keys_among (events_of seen)) e) m (group_in (events_of seen) e held) sent in
       let (y, p, there, tells', partner) = tells.each (numbered_message r m) (into_map (numbered_message r) (messages_of (events_of seen)) m message) in
       let number : number_of r.under m.send ≡ v =
       ap (λ (i : EventId). number_of r.under i) (own ∙ sym id) ∙ own_number r is v (slice_get_within r.came v x came) in
@@ -139,13 +146,14 @@ module _ (r : RosterLists) (is : IsRoster r) (seen : List (List Seen)) (holds : 
       let (s, w, in_s, in_w, is_s, is_w) = ends_known (events_of seen) m message in
       let from : id_by r is v ≡ m.send = end_id m.send s v in_s is_s send in
       let to : id_by r is p.event ≡ m.receive = end_id m.receive w p.event in_w is_w receive in
-      let all : sent_by (events_of seen) e.seen.mark ≡ m ∷ [] = all_sent (events_of seen) e m (ids_differ seen) held message (sym from ∙ id) in
+      let all : sent_in_group (events_of seen) e ≡ m ∷ [] =
+      all_sent (grouped (events_of seen)) (by_group (keys_among (events_of seen)) e) m (grouped_differ (events_of seen) (ids_differ seen)) (group_in (events_of seen) e held) message (sym from ∙ id) in
       ap (λ (i : EventId). couple_line r.declaration i (id_by r is p.event)) from
       ∙ ap (λ (i : EventId). couple_line r.declaration m.send i) to
       ∙ sym (append-nil (couple_line r.declaration m.send m.receive))
       ∙ sym (ap (flat_map line_of_couple) all)
 
-  sent_is : (k : ℕ) (a : ℕ × ℕ) (e : Placed) → slice_get {X = ℕ × ℕ} (listed r).events k ≡ Some a → slice_get (events_of seen) k ≡ Some e → sent_line r a.0 ≡ flat_map line_of_couple (sent_by (events_of seen) e.seen.mark)
+  sent_is : (k : ℕ) (a : ℕ × ℕ) (e : Placed) → slice_get {X = ℕ × ℕ} (listed r).events k ≡ Some a → slice_get (events_of seen) k ≡ Some e → sent_line r a.0 ≡ flat_map line_of_couple (sent_in_group (events_of seen) e)
   sent_is k a e at at' =
       let (x, came) = got r.came a.0 (listed_at r is seen holds k a.0 a.1 at) in
       let same : event_at r.came a.0 ≡ x = event_is r is a.0 x came in
@@ -155,8 +163,9 @@ module _ (r : RosterLists) (is : IsRoster r) (seen : List (List Seen)) (holds : 
   messages_text : sent_lines r ≡ flat_map (message_line (problem_of_seen r.declaration seen).events) (problem_of_seen r.declaration seen).messages
   unfolding line_of_couple
   messages_text =
-      given_same {X = ℕ × ℕ} {Y = Placed} {Z = ℕ} (λ a. sent_line r a.0) (λ e. flat_map line_of_couple (sent_by (events_of seen) e.seen.mark)) (listed r).events (events_of seen) (as_many r is seen holds) sent_is
-      ∙ sym (given_twice line_of_couple (λ (e : Placed). sent_by (events_of seen) e.seen.mark) (events_of seen))
+      given_same {X = ℕ × ℕ} {Y = Placed} {Z = ℕ} (λ a. sent_line r a.0) (λ e. flat_map line_of_couple (sent_in_group (events_of seen) e)) (listed r).events (events_of seen) (as_many r is seen holds) sent_is
+      ∙ sym (given_twice line_of_couple (λ (e : Placed). sent_in_group (events_of seen) e) (events_of seen))
+      ∙ sym (ap (flat_map line_of_couple) (given_map (λ (g : Placed). sent_by (grouped (events_of seen)) g.seen.mark) (by_group (keys_among (events_of seen))) (events_of seen)))
       ∙ sym (given_alike (λ (m : Couple). message_line (map (event_with r.declaration) (events_of seen)) (linked r.declaration (events_of seen) m)) line_of_couple (messages_of (events_of seen))
       (λ m held. couple_text r.declaration (events_of seen) (ids_differ seen) m held))
       ∙ sym (given_map (message_line (map (event_with r.declaration) (events_of seen))) (linked r.declaration (events_of seen)) (messages_of (events_of seen)))

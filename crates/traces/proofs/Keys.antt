@@ -1,35 +1,80 @@
--- The test on keys says exactly whether two are one, and is the one that the code derives.
-use Rattle.std.proofs.Common.{◌≡◌, ℕ, List, Bool, true, refl, ap, subst}
+-- The tests on keys say exactly whether two are one, and are those that the code derives.
+use Rattle.std.proofs.Common.{◌≡◌, ◌==◌, ℕ, List, Bool, true, Option, Some, None, refl, ap, subst}
 use Rattle.std.specs.Prelude.{◌↔◌}
-use Rattle.std.proofs.lemmas.Bool.{false≢true}
+use Rattle.std.specs.Option.{option_eq, option_map}
+use Rattle.std.specs.Ordering.{int_eq}
+use Rattle.std.proofs.lemmas.Bool.{and_from, and_parts, eq-eqb, eqb-true, false≢true}
+use Rattle.std.proofs.lemmas.Bool.Decides.{Decides-int_eq}
 use Rattle.std.proofs.lemmas.Slice.Eq.{bytes_eq-Decides}
 use Rattle.headers.specs.declared.key.PacketKey.{PacketKey}
 use Rattle.headers.proofs.Sameness.{packets_tell, packet_test}
-use Rattle.traces.specs.Seen.{EventKey, Packet, Word, is_same_key, key_of}
+use Rattle.traces.specs.Seen.{EventKey, MessageKey, Packet, Word, SeenMoment, is_same_key, is_same_message, is_same_moment, key_of, message_of, seen_moment}
 use Rattle.traces.specs.contracts.event.KeyPartialEq.TheImpl as eq
+use Rattle.traces.specs.contracts.event.MessageKeyPartialEq.TheImpl as message_eq
+use Rattle.traces.specs.contracts.event.MomentPartialEq.TheImpl as moment_eq
 use Rattle.traces.specs.declared.event.Key.{Key}
-use Rattle.traces.specs.declared.event.Key.TheVariants as code
+use Rattle.traces.specs.declared.event.MessageKey.{MessageKey as MessageKeyOfCode}
+use Rattle.traces.specs.declared.event.MessageKey.TheVariants as code
+use Rattle.traces.specs.declared.event.Moment.{Moment}
 
+-- ---- what messages are known by
+same_message : (a b : MessageKey) → is_same_message a b ≡ true → a ≡ b
+same_message (Packet a) (Packet b) is = ap (λ (k : PacketKey). Packet k) ((packets_tell a b).0 is)
+same_message (Packet a) (Word b) is = absurd (false≢true is)
+same_message (Word a) (Packet b) is = absurd (false≢true is)
+same_message (Word a) (Word b) is = ap (λ (k : List ℕ). Word k) ((bytes_eq-Decides a b).0 is)
+
+own_message : (a : MessageKey) → is_same_message a a ≡ true
+own_message (Packet a) = (packets_tell a a).1 refl
+own_message (Word a) = (bytes_eq-Decides a a).1 refl
+
+-- two messages are known by the same exactly where the test says so
+pub messages_tell : (a b : MessageKey) → (is_same_message a b ≡ true) ↔ (a ≡ b)
+messages_tell a b = (same_message a b, λ is. subst (λ (k : MessageKey). is_same_message a k ≡ true) is (own_message a))
+
+-- ---- moments
+same_moment : (a b : Option SeenMoment) → is_same_moment a b ≡ true → a ≡ b
+same_moment None None is = refl
+same_moment None (Some b) is = absurd (false≢true is)
+same_moment (Some a) None is = absurd (false≢true is)
+same_moment (Some a) (Some b) is =
+    let both = and_parts (int_eq a.time b.time) (a.window == b.window) is in
+    let time : a.time ≡ b.time = (Decides-int_eq a.time b.time).0 both.0 in
+    let window : a.window ≡ b.window = eqb-true a.window b.window both.1 in
+    rw (time, window) refl
+
+own_moment : (a : Option SeenMoment) → is_same_moment a a ≡ true
+own_moment None = refl
+own_moment (Some a) = and_from (int_eq a.time a.time) (a.window == a.window) ((Decides-int_eq a.time a.time).1 refl) (eq-eqb a.window a.window refl)
+
+-- ---- keys
 same_key : (a b : EventKey) → is_same_key a b ≡ true → a ≡ b
-same_key (Packet a) (Packet b) is = ap (λ (k : PacketKey). Packet k) ((packets_tell a b).0 is)
-same_key (Packet a) (Word b) is = absurd (false≢true is)
-same_key (Word a) (Packet b) is = absurd (false≢true is)
-same_key (Word a) (Word b) is = ap (λ (k : List ℕ). Word k) ((bytes_eq-Decides a b).0 is)
+same_key a b is =
+    let both = and_parts (is_same_message a.message b.message) (is_same_moment a.moment b.moment) is in
+    rw (same_message a.message b.message both.0, same_moment a.moment b.moment both.1) refl
 
 own_key : (a : EventKey) → is_same_key a a ≡ true
-own_key (Packet a) = (packets_tell a a).1 refl
-own_key (Word a) = (bytes_eq-Decides a a).1 refl
+own_key a = and_from (is_same_message a.message a.message) (is_same_moment a.moment a.moment) (own_message a.message) (own_moment a.moment)
 
 -- two keys are one exactly where the test says so
 pub keys_tell : (a b : EventKey) → (is_same_key a b ≡ true) ↔ (a ≡ b)
 keys_tell a b = (same_key a b, λ is. subst (λ (k : EventKey). is_same_key a k ≡ true) is (own_key a))
 
--- the derived test
+-- ---- the derived tests
+pub message_test : (a b : MessageKeyOfCode) → message_eq.eq-value.it a b ≡ is_same_message (message_of a) (message_of b)
+message_test (code.Packet a) (code.Packet b) = packet_test a b
+message_test (code.Packet a) (code.Word b) = refl
+message_test (code.Word a) (code.Packet b) = refl
+message_test (code.Word a) (code.Word b) = refl
+
+moment_test : (a b : Option Moment) → option_eq moment_eq.eq-value.it a b ≡ is_same_moment (option_map seen_moment a) (option_map seen_moment b)
+moment_test None None = refl
+moment_test None (Some b) = refl
+moment_test (Some a) None = refl
+moment_test (Some a) (Some b) = refl
+
 abbrev pub key_eq : Key → Key → Bool
 key_eq = eq.eq-value.it
 
 pub key_test : (a b : Key) → key_eq a b ≡ is_same_key (key_of a) (key_of b)
-key_test (code.Packet a) (code.Packet b) = packet_test a b
-key_test (code.Packet a) (code.Word b) = refl
-key_test (code.Word a) (code.Packet b) = refl
-key_test (code.Word a) (code.Word b) = refl
+key_test a b = rw (message_test a.message b.message, moment_test a.moment b.moment) refl

@@ -3,6 +3,8 @@ mod Counting
 pub mod Members
 pub mod Ids
 pub mod Marks
+pub mod CoupleEnds
+pub mod Grouped
 pub mod MessageEnds
 pub mod Lists
 pub mod Names
@@ -11,3 +13,6 @@ pub mod Follows
 pub mod Whole
 pub mod Seen
 pub mod Keys
+pub mod Beginnings
+pub mod Chains
+pub mod Alone

@@ -1,148 +1,54 @@
 -- Messages one by one: their ends, their order and their number.
-use Rattle.std.proofs.Common.{◌≡◌, ◌≢◌, ◌≤◌, List, [], ◌∷◌, length, inl, inr, refl, sym, ap, ◌∙◌, subst, arith, length-append}
-use Rattle.std.specs.Prelude.{All, AllPairs, Contains, slice_index_or}
-use Rattle.std.proofs.lemmas.List.Elements.{All-contains, Contains-get_or}
-use Rattle.traces.specs.declared.event_id.EventId.{EventId}
+use Rattle.std.proofs.Common.{◌≡◌, ◌≢◌, ◌≤◌, List, length, ap, ◌∙◌, subst}
+use Rattle.std.specs.Prelude.{AllPairs, Contains}
 use Rattle.traces.specs.declared.event_id.Couple.{Couple}
-use Rattle.traces.specs.declared.event.Side.{Side}
-use Rattle.traces.specs.declared.event.Side.TheVariants.{Send, Receive}
-use Rattle.traces.specs.Seen.{EventKey, SeenMark, Keyed, Unkeyed, Seen}
+use Rattle.traces.specs.Seen.{Seen}
 use Rattle.traces.specs.Traces.{Placed, events_of}
-use Rattle.traces.specs.Messages.{messages_of, only_two, sent_by, with_mark}
+use Rattle.traces.specs.Windows.{grouped}
+use Rattle.traces.specs.Messages.{messages_of}
 use Rattle.traces.specs.Pairs.{ComesBefore, IsPair}
-use Rattle.traces.proofs.Ids.{before_differs, ids_differ, ids_rise}
-use Rattle.traces.proofs.Marks.{event_one, only_from, only_to, sides_differ}
-use Rattle.traces.proofs.Members.{first_of_pairs, given_by, giver, head_or_tail, here, no_pairs, none_in, pairs_joined, rest_of_pairs, there}
-use Rattle.traces.proofs.Sent.{sent_of}
+use Rattle.traces.proofs.CoupleEnds.{couple_ends, couple_ends_differ, couple_pair, couples_few, couples_rise, couple_sends_differ, pair_couple}
+use Rattle.traces.proofs.Grouped.{grouped_differ, grouped_rise, in_group, length_grouped}
+use Rattle.traces.proofs.Ids.{ids_differ, ids_rise}
 
 -- ---- a message is a pair
-two_of : (xs ys : List Placed) (m : Couple) → Contains (only_two xs ys) m → (s : Placed) × (r : Placed) × (xs ≡ s ∷ []) × (ys ≡ r ∷ []) × (m ≡ record { send = s.id; receive = r.id })
-two_of [] ys m held = absurd (none_in m held)
-two_of (s ∷ t ∷ more) ys m held = absurd (none_in m held)
-two_of (s ∷ []) [] m held = absurd (none_in m held)
-two_of (s ∷ []) (r ∷ []) m held = elim (head_or_tail _ m [] held) [
-  | inl is ↦ (s, r, refl, refl, sym is)
-  | inr more ↦ absurd (none_in m more)
-]
-two_of (s ∷ []) (r ∷ t ∷ more) m held = absurd (none_in m held)
+-- each message is a pair of events by their groups
+pub pair_from : (events : List Placed) (m : Couple) → Contains (messages_of events) m → IsPair (grouped events) m
+pair_from events m held = couple_pair (grouped events) m held
 
-sent_at : (events : List Placed) (key : EventKey) (side : Side) (m : Couple) → Contains (sent_by events (Keyed key side)) m → (pair : IsPair events m) × ◌≡◌ {A = SeenMark} (Keyed key side) (Keyed pair.key Send)
-sent_at events key Receive m held = absurd (none_in m held)
-sent_at events key Send m held =
-    let two = two_of (with_mark key Send events) (with_mark key Receive events) m held in (
-      record {
-        key = key;
-        sender = two.0;
-        receiver = two.1;
-        sends = only_from events key Send two.0 two.2;
-        receives = only_from events key Receive two.1 two.3;
-        is = two.4;
-      },
-      refl,
-    )
-
--- what an event of this mark sends is a pair, and the mark is that of its send
-sent_pair : (events : List Placed) (mark : SeenMark) (m : Couple) → Contains (sent_by events mark) m → (pair : IsPair events m) × (mark ≡ Keyed pair.key Send)
-sent_pair events (Unkeyed reason) m held = absurd (none_in m held)
-sent_pair events (Keyed key side) m held = sent_at events key side m held
-
--- each message is a pair
-pub pair_from : (events : List Placed) (m : Couple) → Contains (messages_of events) m → IsPair events m
-pair_from events m held =
-    let given = giver (λ (e : Placed). sent_by events e.seen.mark) events m held in
-    (sent_pair events given.0.seen.mark m given.2).0
-
--- where names differ, each pair is a message
-pub pair_to : (events : List Placed) (m : Couple) → AllPairs (λ (a b : Placed). a.id ≢ b.id) events → IsPair events m → Contains (messages_of events) m
-pair_to events m differ pair =
-    let couple : Couple = record { send = pair.sender.id; receive = pair.receiver.id } in
-    let both : only_two (with_mark pair.key Send events) (with_mark pair.key Receive events) ≡ couple ∷ [] =
-    ap (λ (xs : List Placed). only_two xs (with_mark pair.key Receive events)) (only_to events pair.key Send pair.sender differ pair.sends)
-    ∙ ap (λ (ys : List Placed). only_two (pair.sender ∷ []) ys) (only_to events pair.key Receive pair.receiver differ pair.receives) in
-    let sent : sent_by events pair.sender.seen.mark ≡ couple ∷ [] = ap (sent_by events) pair.sends.marked ∙ both in
-    given_by (λ (e : Placed). sent_by events e.seen.mark) events pair.sender m pair.sends.among
-    (subst (λ (xs : List Couple). Contains xs m) (sym sent) (subst (λ (x : Couple). Contains (couple ∷ []) x) (sym pair.is) (here couple [])))
+-- where names differ, each such pair is a message
+pub pair_to : (events : List Placed) (m : Couple) → AllPairs (λ (a b : Placed). a.id ≢ b.id) events → IsPair (grouped events) m → Contains (messages_of events) m
+pair_to events m differ pair = pair_couple (grouped events) m (grouped_differ events differ) pair
 
 -- ---- their ends
 -- both ends are events of the list
 pub ends_known : (events : List Placed) (m : Couple) → Contains (messages_of events) m → (s : Placed) × (r : Placed) × Contains events s × Contains events r × (m.send ≡ s.id) × (m.receive ≡ r.id)
 ends_known events m held =
-    let pair = pair_from events m held in
-    (pair.sender, pair.receiver, pair.sends.among, pair.receives.among, ap (λ (c : Couple). c.send) pair.is, ap (λ (c : Couple). c.receive) pair.is)
+    let (s, r, sent, received, from, to) = couple_ends (grouped events) m held in
+    let (s', among, is) = in_group events s sent in
+    let (r', among', is') = in_group events r received in
+    (s', r', among, among', from ∙ ap (λ (e : Placed). e.id) is, to ∙ ap (λ (e : Placed). e.id) is')
 
 -- and where names differ, they are two
 pub ends_differ : (events : List Placed) (m : Couple) → AllPairs (λ (a b : Placed). a.id ≢ b.id) events → Contains (messages_of events) m → m.send ≢ m.receive
-ends_differ events m differ held same =
-    let pair = pair_from events m held in
-    let names : pair.sender.id ≡ pair.receiver.id = sym (ap (λ (c : Couple). c.send) pair.is) ∙ same ∙ ap (λ (c : Couple). c.receive) pair.is in
-    let one' : pair.sender ≡ pair.receiver = event_one events pair.sender pair.receiver differ pair.sends.among pair.receives.among names in
-    sides_differ pair.sender.seen.mark pair.key pair.key pair.sends.marked (ap (λ (e : Placed). e.seen.mark) one' ∙ pair.receives.marked)
+ends_differ events m differ held = couple_ends_differ (grouped events) m (grouped_differ events differ) held
 
 -- ---- how many
-two_few : (xs ys : List Placed) → length (only_two xs ys) ≤ 1
-two_few [] ys = omega arith
-two_few (s ∷ t ∷ more) ys = omega arith
-two_few (s ∷ []) [] = omega arith
-two_few (s ∷ []) (r ∷ []) = omega arith
-two_few (s ∷ []) (r ∷ t ∷ more) = omega arith
-
-few_at : (events : List Placed) (key : EventKey) (side : Side) → length (sent_by events (Keyed key side)) ≤ 1
-few_at events key Send = two_few (with_mark key Send events) (with_mark key Receive events)
-few_at events key Receive = omega arith
-
-sent_few : (events : List Placed) (mark : SeenMark) → length (sent_by events mark) ≤ 1
-sent_few events (Unkeyed reason) = omega arith
-sent_few events (Keyed key side) = few_at events key side
-
-all_few : (events some : List Placed) → length (sent_of events some) ≤ length some
-all_few events [] = omega arith
-all_few events (e ∷ more) = omega (arith, length-append (sent_by events e.seen.mark) (sent_of events more), sent_few events e.seen.mark, all_few events more)
-
 -- there are no more messages than events
 pub messages_few : (events : List Placed) → length (messages_of events) ≤ length events
-messages_few events = all_few events events
+messages_few events = subst (λ n. length (messages_of events) ≤ n) (length_grouped events) (couples_few (grouped events))
 
 -- ---- their order
--- what an event sends has the event for its send
-own_send : (events : List Placed) (e : Placed) (m : Couple) → Contains events e → Contains (sent_by events e.seen.mark) m → m.send ≡ e.id
-own_send events e m among held =
-    let (pair, marked) = sent_pair events e.seen.mark m held in
-    ap (λ (c : Couple). c.send) pair.is ∙ ap (λ (o : Placed). o.id) (sym (pair.sends.alone e among marked))
-
-each_in : {X : Type 0} (P : X → Type 0) (xs : List X) → ((x : X) → Contains xs x → P x) → All P xs
-each_in P xs each k d inside = each (slice_index_or xs k d) (Contains-get_or xs k d inside)
-
-pairs_of_one : {X : Type 0} (R : X → X → Type 0) (xs : List X) → length xs ≤ 1 → AllPairs R xs
-pairs_of_one R xs few i j d below inside = absurd (omega (arith, few, below, inside))
-
-sends_rise : (events some : List Placed) → ((e : Placed) → Contains some e → Contains events e) → AllPairs (λ (a b : Placed). ComesBefore a.id b.id) some → AllPairs (λ (a b : Couple). ComesBefore a.send b.send) (sent_of events some)
-sends_rise events [] part rise = no_pairs (λ (a b : Couple). ComesBefore a.send b.send)
-sends_rise events (e ∷ more) part rise =
-    let R = λ (a b : Couple). ComesBefore a.send b.send in
-    let I = λ (a b : Placed). ComesBefore a.id b.id in
-    let later : All (λ (b : Placed). ComesBefore e.id b.id) more = first_of_pairs I e more rise in
-    pairs_joined R (sent_by events e.seen.mark) (sent_of events more) (pairs_of_one R (sent_by events e.seen.mark) (sent_few events e.seen.mark))
-    (sends_rise events more (λ b held. part b (there e b more held)) (rest_of_pairs I e more rise))
-    (each_in (λ (a : Couple). All (λ (b : Couple). ComesBefore a.send b.send) (sent_of events more)) (sent_by events e.seen.mark)
-    (λ a first.
-    each_in (λ (b : Couple). ComesBefore a.send b.send) (sent_of events more)
-    (λ b behind.
-    let given = giver (λ (o : Placed). sent_by events o.seen.mark) more b behind in
-    let from : a.send ≡ e.id = own_send events e a (part e (here e more)) first in
-    let to : b.send ≡ given.0.id = own_send events given.0 b (part given.0 (there e given.0 more given.1)) given.2 in
-    let before : ComesBefore e.id given.0.id = All-contains (λ (o : Placed). ComesBefore e.id o.id) more given.0 later given.1 in
-    subst (λ (x : EventId). ComesBefore x b.send) (sym from) (subst (λ (x : EventId). ComesBefore e.id x) (sym to) before))))
-
 -- messages stand in the order of their sends
 pub messages_rise : (events : List Placed) → AllPairs (λ (a b : Placed). ComesBefore a.id b.id) events → AllPairs (λ (a b : Couple). ComesBefore a.send b.send) (messages_of events)
-messages_rise events rise = sends_rise events events (λ e held. held) rise
+messages_rise events rise = couples_rise (grouped events) (grouped_rise events rise)
 
 -- so no two have the same send
 pub sends_differ : (events : List Placed) → AllPairs (λ (a b : Placed). ComesBefore a.id b.id) events → AllPairs (λ (a b : Couple). a.send ≢ b.send) (messages_of events)
-sends_differ events rise i j d below inside same = before_differs _ _ (messages_rise events rise i j d below inside) same
+sends_differ events rise = couple_sends_differ (grouped events) (grouped_rise events rise)
 
 -- ---- of all traces
-pub pairs_of : (seen : List (List Seen)) (m : Couple) → IsPair (events_of seen) m → Contains (messages_of (events_of seen)) m
+pub pairs_of : (seen : List (List Seen)) (m : Couple) → IsPair (grouped (events_of seen)) m → Contains (messages_of (events_of seen)) m
 pairs_of seen m pair = pair_to (events_of seen) m (ids_differ seen) pair
 
 pub order_of : (seen : List (List Seen)) → AllPairs (λ (a b : Couple). ComesBefore a.send b.send) (messages_of (events_of seen))

@@ -10,6 +10,7 @@ use Rattle.traces.specs.declared.event.Side.TheVariants.{Send, Receive}
 use Rattle.traces.specs.Seen.{EventKey, SeenMark, Keyed, Unkeyed, Seen, is_mark}
 use Rattle.traces.specs.declared.event_id.EventId.{EventId}
 use Rattle.traces.specs.declared.event_id.Couple.{Couple}
+use Rattle.traces.specs.Windows.{grouped}
 use Rattle.traces.specs.Traces.{Traces, Placed, seen_by, events_of, is_same, name_of, host_of, clock_of}
 
 -- ---- messages
@@ -28,10 +29,14 @@ sent_by events (Keyed key Send) = only_two (with_mark key Send events) (with_mar
 sent_by events (Keyed key Receive) = []
 sent_by events (Unkeyed reason) = []
 
--- the messages in the order of their sends: an event and another one are a message where the one is the only send of its
--- key and the other the only receive of that key
+-- the couples in the order of their sends: an event and another one are a couple where the one is the only send of its key
+-- and the other the only receive of that key
+abbrev pub couples_of : List Placed → List Couple
+couples_of events = flat_map (λ (e : Placed). sent_by events e.seen.mark) events
+
+-- the messages: the couples of events that go by their groups
 abbrev pub messages_of : List Placed → List Couple
-messages_of events = flat_map (λ (e : Placed). sent_by events e.seen.mark) events
+messages_of events = couples_of (grouped events)
 
 -- the same two events
 abbrev pub is_same_couple : Couple → Couple → Bool

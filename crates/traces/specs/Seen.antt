@@ -1,10 +1,11 @@
 -- Events of traces: what is seen of a row of a log, and of a packet.
-use Rattle.std.specs.Prelude.{ℕ, List, [], map, Option, Some, None, Result, Ok, Err, Bool, true, false, ◌==◌, ◌&&◌}
+use Rattle.std.specs.Prelude.{ℕ, ℤ, pos, ◌-ℤ◌, List, [], map, Option, Some, None, option_map, Result, Ok, Err, Bool, true, false, ◌==◌, ◌&&◌}
+use Rattle.std.specs.Ordering.{int_eq}
 use Rattle.std.specs.Str.{bytes_eq}
 use Rattle.event_log.specs.declared.row.Kind.{Kind}
 use Rattle.event_log.specs.declared.row.Kind.TheVariants as kinds
 use Rattle.event_log.specs.declared.row.Row.{Row}
-use Rattle.decl.specs.Declaration.{Declaration, host_at}
+use Rattle.decl.specs.Declaration.{Declaration, host_at, offset_of}
 use Rattle.decl.specs.declared.items.IpVersion.{IpVersion}
 use Rattle.decl.specs.declared.items.IpVersion.TheVariants as versions
 use Rattle.headers.specs.Decoding.{decoded}
@@ -21,16 +22,30 @@ use Rattle.traces.specs.declared.event.Side.TheVariants.{Send, Receive}
 use Rattle.traces.specs.declared.event.NoKey.{NoKey}
 use Rattle.traces.specs.declared.event.NoKey.TheVariants as without
 use Rattle.traces.specs.declared.event.Key.{Key}
-use Rattle.traces.specs.declared.event.Key.TheVariants as code
+use Rattle.traces.specs.declared.event.MessageKey.{MessageKey as MessageKeyOfCode}
+use Rattle.traces.specs.declared.event.MessageKey.TheVariants as code
+use Rattle.traces.specs.declared.event.Moment.{Moment}
 use Rattle.traces.specs.declared.event.Mark.{Mark}
 use Rattle.traces.specs.declared.event.Mark.TheVariants as marks
 use Rattle.traces.specs.declared.event.Event.{Event}
 
 -- ---- what is seen of an event
 -- what a message is known by at both of its ends: the key of a packet, or a row's word
-pub data EventKey : Type 0 where
-  Packet : PacketKey → EventKey
-  Word : List ℕ → EventKey
+pub data MessageKey : Type 0 where
+  Packet : PacketKey → MessageKey
+  Word : List ℕ → MessageKey
+
+-- when an event happened, and how far apart neighbouring events of one message may be, both in ns: the time is the event's
+-- stamp less the offset of its clock
+pub record SeenMoment : Type 0 where
+  pub time : ℤ
+  pub window : ℕ
+
+-- what tells whether two events may belong together: what the message is known by, and where a window is declared, when the
+-- event happened
+pub record EventKey : Type 0 where
+  pub message : MessageKey
+  pub moment : Option SeenMoment
 
 -- which end of which message an event is, or why it is none
 pub data SeenMark : Type 0 where
@@ -44,12 +59,23 @@ pub record Seen : Type 0 where
   pub text : List ℕ
 
 -- ---- one key
--- two keys are one; those of different kinds never are
+-- two messages are known by the same; those of different kinds never are
+abbrev pub is_same_message : MessageKey → MessageKey → Bool
+is_same_message (Packet a) (Packet b) = is_same_packet a b
+is_same_message (Packet a) (Word b) = false
+is_same_message (Word a) (Packet b) = false
+is_same_message (Word a) (Word b) = bytes_eq a b
+
+-- two times are one, and their windows too; or there is neither
+abbrev pub is_same_moment : Option SeenMoment → Option SeenMoment → Bool
+is_same_moment None None = true
+is_same_moment None (Some b) = false
+is_same_moment (Some a) None = false
+is_same_moment (Some a) (Some b) = int_eq a.time b.time && (a.window == b.window)
+
+-- two keys are one
 abbrev pub is_same_key : EventKey → EventKey → Bool
-is_same_key (Packet a) (Packet b) = is_same_packet a b
-is_same_key (Packet a) (Word b) = false
-is_same_key (Word a) (Packet b) = false
-is_same_key (Word a) (Word b) = bytes_eq a b
+is_same_key a b = is_same_message a.message b.message && is_same_moment a.moment b.moment
 
 -- two ends are both sends, or both receives
 abbrev pub is_same_side : Side → Side → Bool
@@ -63,18 +89,23 @@ abbrev pub is_mark : EventKey → Side → SeenMark → Bool
 is_mark key side (Keyed other its_side) = is_same_key other key && is_same_side its_side side
 is_mark key side (Unkeyed reason) = false
 
--- ---- rows of logs
--- the mark of a row: its kind says which end it is
-abbrev pub mark_of_row : Kind → Option (List ℕ) → SeenMark
-mark_of_row kinds.Send None = Unkeyed without.Local
-mark_of_row kinds.Send (Some key) = Keyed (Word key) Send
-mark_of_row kinds.Receive None = Unkeyed without.Local
-mark_of_row kinds.Receive (Some key) = Keyed (Word key) Receive
-mark_of_row kinds.Local key = Unkeyed without.Local
+-- ---- times
+-- when an event with this stamp of a clock happened, where a window is declared
+abbrev pub moment_of : Declaration → ℕ → ℕ → Option SeenMoment
+moment_of d clock stamp = option_map (λ window. record { time = pos stamp -ℤ offset_of d clock; window = window }) d.window
 
--- the event of a row
-abbrev pub seen_row : Row → Seen
-seen_row row = record { stamp = row.stamp; mark = mark_of_row row.kind row.key; text = row.text }
+-- ---- rows of logs
+-- the mark of a row that happened then: its kind says which end it is
+abbrev pub mark_of_row : Option SeenMoment → Kind → Option (List ℕ) → SeenMark
+mark_of_row moment kinds.Send None = Unkeyed without.Local
+mark_of_row moment kinds.Send (Some key) = Keyed (record { message = Word key; moment = moment }) Send
+mark_of_row moment kinds.Receive None = Unkeyed without.Local
+mark_of_row moment kinds.Receive (Some key) = Keyed (record { message = Word key; moment = moment }) Receive
+mark_of_row moment kinds.Local key = Unkeyed without.Local
+
+-- the event of a row, whose stamp is of this clock
+abbrev pub seen_row : Declaration → ℕ → Row → Seen
+seen_row d clock row = record { stamp = row.stamp; mark = mark_of_row (moment_of d clock row.stamp) row.kind row.key; text = row.text }
 
 -- ---- packets
 -- why a packet has no key
@@ -107,24 +138,32 @@ mark_by key false true = Keyed key Receive
 mark_by key true true = Unkeyed without.Side
 mark_by key false false = Unkeyed without.Side
 
--- the mark of a packet at a host, by what its headers say
-abbrev pub mark_of_packet : Declaration → ℕ → Result PacketKey Reason → SeenMark
-mark_of_packet d host (Ok key) = let ends = ends_at d host key.network in mark_by (Packet key) ends.0 ends.1
-mark_of_packet d host (Err reason) = Unkeyed (no_key reason)
+-- the mark of a packet that passed a host then, by what its headers say
+abbrev pub mark_of_packet : Declaration → ℕ → Option SeenMoment → Result PacketKey Reason → SeenMark
+mark_of_packet d host moment (Ok key) = let ends = ends_at d host key.network in mark_by (record { message = Packet key; moment = moment }) ends.0 ends.1
+mark_of_packet d host moment (Err reason) = Unkeyed (no_key reason)
 
 -- what belongs to the key of a packet
 abbrev pub wanted_of : Declaration → Wanted
 wanted_of d = record { payload_bytes = d.payload_bytes; tcp_options = d.tcp_options; fragments = d.fragments }
 
--- the event of a packet that was captured at a host
-abbrev pub event_of_packet : Declaration → ℕ → captured.Seen → Seen
-event_of_packet d host p = record { stamp = p.stamp; mark = mark_of_packet d host (decoded p.link p.bytes (wanted_of d)); text = [] }
+-- the event of a packet that was captured at a host, by one of its clocks
+abbrev pub event_of_packet : Declaration → ℕ → ℕ → captured.Seen → Seen
+event_of_packet d host clock p = record { stamp = p.stamp; mark = mark_of_packet d host (moment_of d clock p.stamp) (decoded p.link p.bytes (wanted_of d)); text = [] }
 
 -- ---- events of the code
+-- what a message is known by
+abbrev pub message_of : MessageKeyOfCode → MessageKey
+message_of (code.Packet key) = Packet key
+message_of (code.Word key) = Word key
+
+-- when an event happened
+abbrev pub seen_moment : Moment → SeenMoment
+seen_moment m = record { time = m.time; window = m.window }
+
 -- the key
 abbrev pub key_of : Key → EventKey
-key_of (code.Packet key) = Packet key
-key_of (code.Word key) = Word key
+key_of k = record { message = message_of k.message; moment = option_map seen_moment k.moment }
 
 -- the mark
 abbrev pub mark_of : Mark → SeenMark

@@ -1,10 +1,11 @@
 // Events of captures.
-ghost use Rattle.std.specs.Prelude.{◌≡◌, ◌≤◌, map, IfOk};
+ghost use Rattle.std.specs.Prelude.{◌≡◌, map, option_map, IfOk};
 ghost use Rattle.captures.specs.Feeding.{seen_packet, seen_packets};
-ghost use Rattle.decl.specs.Declaration.{declaration_of};
-ghost use Rattle.traces.specs.Seen.{ends_at, event_of_packet, is_at, key_of, mark_by, mark_of, mark_of_packet, no_key, seen_event, seen_events, wanted_of};
+ghost use Rattle.decl.specs.Declaration.{IsDeclaration, declaration_of};
+ghost use Rattle.traces.specs.Seen.{ends_at, event_of_packet, is_at, key_of, mark_by, mark_of, mark_of_packet, no_key, seen_event, seen_events, seen_moment, wanted_of};
 
-use crate::{Event, Key, Mark, NoKey, Side};
+use crate::moments::moment_of;
+use crate::{Event, Key, Mark, MessageKey, Moment, NoKey, Side};
 use captures::Packet;
 use decl::{Decl, IpVersion};
 use headers::{Network, PacketKey, Reason, Wanted, decode};
@@ -67,14 +68,20 @@ fn mark_by(key: Key, from_host: bool, to_host: bool) -> Mark
     }
 }
 
-// The mark of a packet at a host, by what its headers say.
-fn mark_of_packet(decl: &Decl, host: u32, decoded: Result<PacketKey, Reason>) -> Mark
-    ensures { mark_of result ≡ mark_of_packet (declaration_of decl.now) host decoded }
+// The mark of a packet that passed a host then, by what its headers say.
+fn mark_of_packet(
+    decl: &Decl,
+    host: u32,
+    moment: Option<Moment>,
+    decoded: Result<PacketKey, Reason>,
+) -> Mark
+    ensures { mark_of result ≡ mark_of_packet (declaration_of decl.now) host (option_map seen_moment moment) decoded }
 {
     match decoded {
-        Ok(key) => {
-            let (from_host, to_host) = ends_at(decl, host, key.network);
-            mark_by(Key::Packet(key), from_host, to_host)
+        Ok(packet) => {
+            let (from_host, to_host) = ends_at(decl, host, packet.network);
+            let message = MessageKey::Packet(packet);
+            mark_by(Key { message, moment }, from_host, to_host)
         }
         Err(reason) => Mark::Unkeyed(no_key(reason)),
     }
@@ -91,36 +98,39 @@ fn wanted_of(decl: &Decl) -> Wanted
     }
 }
 
-// The event of a packet that was captured at a host.
-fn event_of_packet(decl: &Decl, host: u32, packet: &Packet) -> Event
-    requires { decl.now.payload_bytes ≤ 64 }
-    ensures { seen_event result ≡ event_of_packet (declaration_of decl.now) host (seen_packet packet.now) }
+// The event of a packet that was captured at a host, by one of its clocks.
+fn event_of_packet(decl: &Decl, host: u32, clock: u32, packet: &Packet) -> Event
+    requires { IsDeclaration (declaration_of decl.now) }
+    ensures { seen_event result ≡ event_of_packet (declaration_of decl.now) host clock (seen_packet packet.now) }
 {
     let decoded = decode(packet.link, &packet.bytes, wanted_of(decl));
+    let moment = moment_of(decl, clock, packet.stamp);
     Event {
         stamp: packet.stamp,
-        mark: mark_of_packet(decl, host, decoded),
+        mark: mark_of_packet(decl, host, moment, decoded),
         text: None,
     }
 }
 
-/// The events of packets that were captured at a host, in their order; an error where memory runs out.
+/// The events of packets that were captured at a host and stamped by one of its clocks, in their order; an error where
+/// memory runs out.
 ///
-/// A host goes by the place of its clock. A packet is a send where its source is an address of the host and its
+/// A host and a clock go by their places. A packet is a send where its source is an address of the host and its
 /// destination is none, and a receive the other way round; a packet of IPv6 goes by addresses of IPv6. Of a payload at most
-/// 64 bytes are in the key.
+/// 64 bytes are in the key. Where a window is declared, it happened at its stamp less the offset of the clock.
 pub fn packet_events(
     alloc: Global,
     decl: &Decl,
     host: u32,
+    clock: u32,
     packets: &[Packet],
 ) -> Result<Vec<Event>, AllocError>
-    requires { decl.now.payload_bytes ≤ 64 }
-    ensures { IfOk result (λ events. seen_events events.items ≡ map (event_of_packet (declaration_of decl.now) host) (seen_packets packets.now)) }
+    requires { IsDeclaration (declaration_of decl.now) }
+    ensures { IfOk result (λ events. seen_events events.items ≡ map (event_of_packet (declaration_of decl.now) host clock) (seen_packets packets.now)) }
 {
     let mut events = Vec::with_capacity(alloc, packets.len())?;
     for packet in packets {
-        events.push(event_of_packet(decl, host, packet))?;
+        events.push(event_of_packet(decl, host, clock, packet))?;
     }
     Ok(events)
 }

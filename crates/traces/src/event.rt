@@ -12,13 +12,31 @@ pub enum Side {
     Receive,
 }
 
-/// What a message is known by at both of its ends. Keys of different kinds are never equal.
+/// What a message is known by at both of its ends. Those of different kinds are never equal.
 #[derive(Debug, PartialEq, Eq, PartialOrd, Ord, Drop)]
-pub enum Key {
+pub enum MessageKey {
     /// A packet, by its headers and the beginning of its payload.
     Packet(PacketKey),
     /// A message of event logs, by its word.
     Word(WordKey),
+}
+
+/// When an event happened, where a window is declared.
+#[derive(Clone, Copy, Debug, PartialEq, Eq, PartialOrd, Ord)]
+pub struct Moment {
+    /// The event's stamp less the offset of its clock, in ns: above -2^62 and below 2^63.
+    pub time: i64,
+    /// How far apart neighbouring events of one message lie at most so that they belong together, in ns below 2^62.
+    pub window: u64,
+}
+
+/// What tells whether two events may be the ends of one message.
+#[derive(Debug, PartialEq, Eq, PartialOrd, Ord, Drop)]
+pub struct Key {
+    /// What the message is known by.
+    pub message: MessageKey,
+    /// When the event happened; None where no window is declared.
+    pub moment: Option<Moment>,
 }
 
 /// Why an event is the end of no message.
@@ -48,7 +66,7 @@ pub enum NoKey {
 pub enum Mark {
     /// The end of a message.
     Keyed {
-        /// What the message is known by.
+        /// What the message is known by, and when its end happened.
         key: Key,
         /// Which end it is.
         side: Side,

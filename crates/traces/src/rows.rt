@@ -1,46 +1,67 @@
 // Events of event logs.
-ghost use Rattle.std.specs.Prelude.{◌≡◌, map, IfOk};
-ghost use Rattle.traces.specs.Seen.{mark_of, mark_of_row, seen_event, seen_events, seen_row};
+ghost use Rattle.std.specs.Prelude.{◌≡◌, map, option_map, IfOk};
+ghost use Rattle.decl.specs.Declaration.{HasLawfulOwners, IsDeclaration, declaration_of};
+ghost use Rattle.traces.specs.Seen.{Word, key_of, mark_of, mark_of_row, seen_event, seen_events, seen_moment, seen_row};
 
-use crate::{Event, Key, Mark, NoKey, Side};
+use crate::moments::moment_of;
+use crate::{Event, Key, Mark, MessageKey, Moment, NoKey, Side};
+use decl::Decl;
 use event_log::{Kind, Row, WordKey};
 use std::alloc::{AllocError, Global};
 
-// The mark of a row of this kind with this key.
-fn mark_of_row(kind: Kind, key: Option<WordKey>) -> Mark
-    ensures { mark_of result ≡ mark_of_row kind key }
+// The key of a row with this word.
+fn row_key(moment: Option<Moment>, word: WordKey) -> Key
+    ensures { key_of result ≡ record { message = Word word; moment = option_map seen_moment moment } }
+{
+    let message = MessageKey::Word(word);
+    Key { message, moment }
+}
+
+// The mark of a row of this kind with this key, which happened then.
+fn mark_of_row(moment: Option<Moment>, kind: Kind, key: Option<WordKey>) -> Mark
+    ensures { mark_of result ≡ mark_of_row (option_map seen_moment moment) kind key }
 {
     match (kind, key) {
-        (Kind::Send, Some(key)) => Mark::Keyed {
-            key: Key::Word(key),
+        (Kind::Send, Some(word)) => Mark::Keyed {
+            key: row_key(moment, word),
             side: Side::Send,
         },
-        (Kind::Receive, Some(key)) => Mark::Keyed {
-            key: Key::Word(key),
+        (Kind::Receive, Some(word)) => Mark::Keyed {
+            key: row_key(moment, word),
             side: Side::Receive,
         },
         _ => Mark::Unkeyed(NoKey::Local),
     }
 }
 
-// The event of a row, which takes its text over.
-fn event_of_row(row: Row) -> Event
-    ensures { seen_event result ≡ seen_row row }
+// The event of a row whose stamp is of this clock; it takes the row's text over.
+fn event_of_row(decl: &Decl, clock: u32, row: Row) -> Event
+    requires { HasLawfulOwners (declaration_of decl.now) }
+    ensures { seen_event result ≡ seen_row (declaration_of decl.now) clock row }
 {
+    let moment = moment_of(decl, clock, row.stamp);
     Event {
         stamp: row.stamp,
-        mark: mark_of_row(row.kind, row.key),
+        mark: mark_of_row(moment, row.kind, row.key),
         text: Some(row.text),
     }
 }
 
-/// The events of rows, in their order; an error where memory runs out. The texts are moved, and none is copied.
-pub fn row_events(alloc: Global, rows: Vec<Row>) -> Result<Vec<Event>, AllocError>
-    ensures { IfOk result (λ events. seen_events events.items ≡ map seen_row rows.items) }
+/// The events of rows that were stamped by a clock, which goes by its place, in their order; an error where memory runs
+/// out. The texts are moved, and none is copied. Where a window is declared, a row happened at its stamp less the offset of
+/// the clock.
+pub fn row_events(
+    alloc: Global,
+    decl: &Decl,
+    clock: u32,
+    rows: Vec<Row>,
+) -> Result<Vec<Event>, AllocError>
+    requires { IsDeclaration (declaration_of decl.now) }
+    ensures { IfOk result (λ events. seen_events events.items ≡ map (seen_row (declaration_of decl.now) clock) rows.items) }
 {
     let mut events = Vec::with_capacity(alloc, rows.len())?;
     for row in rows {
-        events.push(event_of_row(row))?;
+        events.push(event_of_row(decl, clock, row))?;
     }
     Ok(events)
 }
