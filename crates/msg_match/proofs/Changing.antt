@@ -12,7 +12,7 @@ use Rattle.traces.specs.Seen.{EventKey, is_same_key, is_same_side}
 use Rattle.msg_match.specs.declared.change.Couple.{Couple}
 use Rattle.msg_match.specs.Groups.{SeenItem, couple_of, events_with, group_of, has_mark, only_couple}
 use Rattle.msg_match.specs.Messages.{IsMessage}
-use Rattle.msg_match.specs.Changes.{AreMessagesAnew, HaveOwnNumbers}
+use Rattle.msg_match.specs.Changes.{AreCouplesAnew, HaveOwnNumbers}
 use Rattle.msg_match.specs.Parts.{AreCouplesOf, IsCoupleOf}
 use Rattle.msg_match.proofs.Grouping.{exact_keys, none_with, some_with}
 use Rattle.msg_match.proofs.Keeping.{key_in, key_known}
@@ -74,7 +74,7 @@ toucher (x ∷ ys) key known = elim (or_cases (is_same_key key x.key) (list_any 
   | inr more ↦ (let (y, (k, inside, is), has) = toucher ys key more in (y, (suc k, omega (arith, inside), is), has))
 ]
 
-known_by : (ys : List SeenItem) (y : SeenItem) → Contains ys y → list_any (is_same_key y.key) (map key_in ys) ≡ true
+pub known_by : (ys : List SeenItem) (y : SeenItem) → Contains ys y → list_any (is_same_key y.key) (map key_in ys) ≡ true
 known_by ys y (k, inside, is) = subst (λ (x : SeenItem). list_any (is_same_key x.key) (map key_in ys) ≡ true) is (key_known ys k y inside)
 
 module _ (xs ys : List SeenItem) (differ : HaveOwnNumbers (xs ++ ys)) where
@@ -113,7 +113,7 @@ module _ (xs ys : List SeenItem) (differ : HaveOwnNumbers (xs ++ ys)) where
       record { key = c.0.key; sent = parts.0; received = parts.1 }
 
   -- the messages of keys of events that were added, after them, are just those that are new
-  pub added_anew : (found : List Couple) → AreCouplesOf (xs ++ ys) ys found → AreMessagesAnew xs (xs ++ ys) found
+  pub added_anew : (found : List Couple) → AreCouplesOf (xs ++ ys) ys found → AreCouplesAnew xs (xs ++ ys) found
   added_anew found couples = record {
     only = λ m held.
         let c = couples.only m held in
@@ -135,7 +135,7 @@ module _ (xs ys : List SeenItem) (differ : HaveOwnNumbers (xs ++ ys)) where
   }
 
   -- and those before them are just those that are none any more
-  pub withdrawn_anew : (found : List Couple) → AreCouplesOf xs ys found → AreMessagesAnew (xs ++ ys) xs found
+  pub withdrawn_anew : (found : List Couple) → AreCouplesOf xs ys found → AreCouplesAnew (xs ++ ys) xs found
   withdrawn_anew found couples = record {
     only = λ m held. let c = couples.only m held in (message_is xs m c, λ after. changes m (message_is xs m c) after (known_by ys c.0 c.1));
     all = λ m old. elim (cases_Bool (list_any (is_same_key old.0.key) (map key_in ys))) [

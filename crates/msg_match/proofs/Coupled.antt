@@ -12,9 +12,9 @@ use Rattle.msg_match.specs.Messages.{IsMessage}
 use Rattle.traces.specs.declared.event_id.EventId.{EventId}
 use Rattle.traces.specs.declared.event_id.Couple.{Couple}
 use Rattle.traces.specs.Traces.{Placed}
-use Rattle.traces.specs.Messages.{messages_of, with_mark}
+use Rattle.traces.specs.Messages.{couples_of, with_mark}
 use Rattle.traces.proofs.Marks.{only_from, only_to}
-use Rattle.traces.proofs.MessageEnds.{pair_from, pair_to}
+use Rattle.traces.proofs.CoupleEnds.{couple_pair, pair_couple}
 use Rattle.msg_match.specs.Ends.{End, end_at, ends_among, name_as_came, named}
 use Rattle.msg_match.specs.Ambiguous.{is_end, names_with}
 use Rattle.msg_match.proofs.Lists.{AreAlike, alike_filter, alike_map, alike_one, map_one}
@@ -41,10 +41,10 @@ module _ (events : List Placed) (ends : List End) (differ : AllPairs (λ (a b : 
       moved_one (ends_among events) ends key side id same
       (names_of events key side ∙ ap (λ (l : List Placed). map (λ (o : Placed). o.id) l) only ∙ ap (λ (n : EventId). n ∷ []) (sym is))
 
-  -- a message of events is a couple of their ends
-  pub message_couple : (m : Couple) → Contains (messages_of events) m → IsCouple ends m
+  -- a couple of events is one of their ends
+  pub message_couple : (m : Couple) → Contains (couples_of events) m → IsCouple ends m
   message_couple m held =
-      let pair = pair_from events m held in
+      let pair = couple_pair events m held in
       record {
         key = pair.key;
         sent = only_name pair.key Send pair.sender m.send (only_to events pair.key Send pair.sender differ pair.sends) (ap (λ (c : Couple). c.send) pair.is);
@@ -56,12 +56,12 @@ module _ (events : List Placed) (ends : List End) (differ : AllPairs (λ (a b : 
       map_one (λ (o : Placed). o.id) (with_mark key side events) id
       (sym (names_of events key side) ∙ moved_one ends (ends_among events) key side id (IsPermutation-sym (ends_among events) ends same) is)
 
-  -- and a couple of the ends is a message
-  pub couple_message : (m : Couple) → IsCouple ends m → Contains (messages_of events) m
+  -- and a couple of the ends is one of the events
+  pub couple_message : (m : Couple) → IsCouple ends m → Contains (couples_of events) m
   couple_message m couple =
       let (s, only_s, is_s) = only_placed couple.key Send m.send couple.sent in
       let (r, only_r, is_r) = only_placed couple.key Receive m.receive couple.received in
-      pair_to events m differ
+      pair_couple events m differ
       (record {
         key = couple.key;
         sender = s;

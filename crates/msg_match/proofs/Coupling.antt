@@ -9,20 +9,20 @@ use Rattle.std.proofs.lemmas.List.Quantifiers.{all_pairs_push}
 use Rattle.std.proofs.lemmas.Option.{none-some, same_Some}
 use Rattle.std.proofs.lemmas.Map.Views.{Contains-from_any}
 use Rattle.msg_match.specs.declared.change.Couple.{Couple}
-use Rattle.msg_match.specs.Groups.{SeenItem, couple_of, group_of}
-use Rattle.msg_match.specs.Parts.{AreCouplesOf, is_same_couple, noted}
+use Rattle.msg_match.specs.Groups.{SeenGroup, SeenItem, couple_of, group_of}
+use Rattle.msg_match.specs.Parts.{AreCouplesIn, AreCouplesOf, is_same_couple, noted}
 use Rattle.msg_match.proofs.Placing.{none_any, some_any}
 
 -- ---- couples
 abbrev made_couple : ℕ → ℕ → Couple
 made_couple s r = record { send = s; receive = r }
 
-same_couple : (a b : Couple) → is_same_couple a b ≡ true → a ≡ b
+pub same_couple : (a b : Couple) → is_same_couple a b ≡ true → a ≡ b
 same_couple a b same =
     let both = and_parts (a.send == b.send) (a.receive == b.receive) same in
     ap (λ (n : ℕ). made_couple n a.receive) (eqb-true a.send b.send both.0) ∙ ap (λ (n : ℕ). made_couple b.send n) (eqb-true a.receive b.receive both.1)
 
-own_couple : (a : Couple) → is_same_couple a a ≡ true
+pub own_couple : (a : Couple) → is_same_couple a a ≡ true
 own_couple a = and_from (a.send == a.send) (a.receive == a.receive) (eq-eqb a.send a.send refl) (eq-eqb a.receive a.receive refl)
 
 -- ---- one more
@@ -87,6 +87,28 @@ couples_more items some x found (Some c) is so_far = record {
   all = λ m couple. elim (Contains-push_cases some x couple.0 couple.1) [
     | inl before ↦ noted_old found c m (so_far.all m (couple.0, before, couple.2))
     | inr last ↦ (let same : c ≡ m = same_Some c m (is ∙ ap (λ (y : SeenItem). couple_of (group_of items y.key)) last ∙ couple.2) in subst (λ (d : Couple). Contains (noted found (Some c)) d) same (noted_new found c))
+  ];
+  once = noted_once found c so_far.once;
+}
+
+-- ---- the couples of groups
+pub in_groups : (some : List SeenGroup) (g : SeenGroup) (found : List Couple) (o : Option Couple) → o ≡ couple_of g → AreCouplesIn some found → AreCouplesIn (some ++ g ∷ []) (noted found o)
+in_groups some g found None is so_far = record {
+  only = λ m held. let c = so_far.only m held in (c.0, Contains-append_left some (g ∷ []) c.0 c.1, c.2);
+  all = λ m couple. elim (Contains-push_cases some g couple.0 couple.1) [
+    | inl before ↦ so_far.all m (couple.0, before, couple.2)
+    | inr last ↦ absurd (none-some m (is ∙ ap (λ (h : SeenGroup). couple_of h) last ∙ couple.2))
+  ];
+  once = so_far.once;
+}
+in_groups some g found (Some c) is so_far = record {
+  only = λ m held. elim (noted_only found c m held) [
+    | inl before ↦ (let p = so_far.only m before in (p.0, Contains-append_left some (g ∷ []) p.0 p.1, p.2))
+    | inr last ↦ (g, Contains-push some g, sym is ∙ ap (λ (d : Couple). Some d) last)
+  ];
+  all = λ m couple. elim (Contains-push_cases some g couple.0 couple.1) [
+    | inl before ↦ noted_old found c m (so_far.all m (couple.0, before, couple.2))
+    | inr last ↦ (let same : c ≡ m = same_Some c m (is ∙ ap (λ (h : SeenGroup). couple_of h) last ∙ couple.2) in subst (λ (d : Couple). Contains (noted found (Some c)) d) same (noted_new found c))
   ];
   once = noted_once found c so_far.once;
 }

@@ -16,7 +16,9 @@ use Rattle.msg_match.specs.Held.{seen_group, seen_groups}
 use Rattle.msg_match.specs.Parts.{keys_in}
 use Rattle.traces.specs.declared.event_id.EventId.{EventId}
 use Rattle.traces.specs.Traces.{Placed, events_of, is_same}
+use Rattle.traces.specs.Windows.{grouped}
 use Rattle.traces.specs.Pairs.{ComesBefore}
+use Rattle.traces.proofs.Grouped.{grouped_rise}
 use Rattle.traces.proofs.Ids.{ids_rise}
 use Rattle.traces.proofs.Members.{first_of_pairs, giver, no_pairs, rest_of_pairs}
 use Rattle.msg_match.specs.Ends.{End, end_at, end_by_mark, ends_among, name_as_came}
@@ -44,8 +46,8 @@ events_rise (e ∷ events) rising =
     subst (ComesBefore e.id) (sym (own_end o.id o.seen.mark b gives)) (All-contains (R e) events o (first_of_pairs R e events rising) among)))
     (events_rise events (rest_of_pairs R e events rising))
 
-pub ends_rise : (seen : List (List Seen)) → AreRising (ends_among (events_of seen))
-ends_rise seen = events_rise (events_of seen) (ids_rise seen)
+pub ends_rise : (seen : List (List Seen)) → AreRising (ends_among (grouped (events_of seen)))
+ends_rise seen = events_rise (grouped (events_of seen)) (grouped_rise (events_of seen) (ids_rise seen))
 
 -- ---- the events of a key
 pub names_rise : (ends : List End) (key : EventKey) (side : Side) → AreRising ends → AreNamesInOrder (names_with ends key side)
@@ -181,16 +183,14 @@ pub groups_within : (ids : List EventId) (items : List SeenItem) → All (λ (x 
 groups_within ids items within = All-map (IsWithin ids) (group_of items) (keys_of items) (λ k d inside. (events_within ids items _ Send within, events_within ids items _ Receive within))
 
 -- all of them, sorted, are the ambiguous keys of the ends in their order
-pub all_told : {X : Type 0} (f : X → EventId) (g : X → EndGroup) (ids : List EventId) (items : List SeenItem) (groups : List SeenGroup) (seen : List (List Seen)) (found sorted : List X) → IsPermutation (ends_among (events_of seen)) (map (end_at ids) items) → groups ≡ groups_of items
-    → ((ends : List End) → AreRising ends → All (HasEventsOf ids ends) groups → map (λ (x : X). (f x, g x)) found ≡ led_groups ends (keys_in groups))
+pub all_told : {X : Type 0} (f : X → EventId) (g : X → EndGroup) (ids : List EventId) (items : List SeenItem) (groups : List SeenGroup) (ends : List End) (found sorted : List X) → AreRising ends → IsPermutation ends (map (end_at ids) items) → groups ≡ groups_of items
+    → (All (HasEventsOf ids ends) groups → map (λ (x : X). (f x, g x)) found ≡ led_groups ends (keys_in groups))
     → ((in_order : List (EventId × EndGroup)) → AllPairs (λ (a b : EventId × EndGroup). ComesBefore a.0 b.0) in_order → IsPermutation in_order (map (λ (x : X). (f x, g x)) found) → map (λ (x : X). (f x, g x)) sorted ≡ in_order)
-    → map g sorted ≡ ambiguous_ends (ends_among (events_of seen))
-all_told {X} f g ids items groups seen found sorted same is gives sorts =
-    let ends : List End = ends_among (events_of seen) in
-    let rising : AreRising ends = ends_rise seen in
+    → map g sorted ≡ ambiguous_ends ends
+all_told {X} f g ids items groups ends found sorted rising same is gives sorts =
     let have : All (HasEventsOf ids ends) groups = subst (All (HasEventsOf ids ends)) (sym is) (groups_have ids items ends rising same) in
     let keys : keys_in groups ≡ keys_of items = ap (λ (gs : List SeenGroup). keys_in gs) is ∙ group_keys items (keys_of items) in
-    let all : map (λ (x : X). (f x, g x)) found ≡ led_groups ends (keys_of items) = gives ends rising have ∙ ap (led_groups ends) keys in
+    let all : map (λ (x : X). (f x, g x)) found ≡ led_groups ends (keys_of items) = gives have ∙ ap (led_groups ends) keys in
     let in_order : List (EventId × EndGroup) = map (led_group ends) (ambiguous_keys ends) in
     told_behind f g sorted ends
     (sorts in_order (all_rise ends rising) (subst (IsPermutation in_order) (sym all) (all_moved ids items ends same)))

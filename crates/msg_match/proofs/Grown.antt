@@ -11,9 +11,11 @@ use Rattle.msg_match.specs.declared.change.Change.{Change}
 use Rattle.msg_match.specs.Groups.{SeenItem}
 use Rattle.msg_match.specs.Changes.{AreMessagesAnew, HaveOwnNumbers}
 use Rattle.traces.specs.declared.event_id.EventId.{EventId}
-use Rattle.traces.specs.Traces.{Placed, event_count, numbered}
+use Rattle.traces.specs.Traces.{Placed, event_count, events_of, numbered}
 use Rattle.msg_match.specs.Ends.{AreChanges, AreCouplesBelow, AreEndsBy, AreMatchedEnds, End, end_at, end_by_mark, ends_among, ids_from, item_of, items_from, name_as_came, no_name}
 use Rattle.msg_match.proofs.Growing.{ends_few as few_ends_of, length_numbered, more_ends, no_ends}
+use Rattle.msg_match.specs.Windowed.{grouped_items}
+use Rattle.msg_match.proofs.GroupedEnds.{ends_regrouped, grouped_within}
 use Rattle.msg_match.proofs.Renamed.{AreWithin, anew_within, named_anew}
 
 -- ---- numbers
@@ -158,19 +160,25 @@ module _ (ids more : List EventId) (items new : List SeenItem) (before after : L
     (added : AreMessagesAnew items (items ++ new) c.added.items) (withdrawn : AreMessagesAnew (items ++ new) items c.withdrawn.items) where
   -- what comes and goes has numbers of names
   pub added_within : AreCouplesBelow (length (ids ++ more)) c.added.items
-  added_within = anew_within (ids ++ more) items (items ++ new) c.added.items are'.within added
+  added_within = anew_within (ids ++ more) (grouped_items items) (grouped_items (items ++ new)) c.added.items (grouped_within (ids ++ more) (items ++ new) are'.within) added
 
   pub gone_within : AreCouplesBelow (length ids) c.withdrawn.items
-  gone_within = anew_within ids (items ++ new) items c.withdrawn.items are.within withdrawn
+  gone_within = anew_within ids (grouped_items (items ++ new)) (grouped_items items) c.withdrawn.items (grouped_within ids items are.within) withdrawn
 
   -- and by the names it is what comes and goes
   pub changes_are : AllPairs (λ (a b : EventId). a ≢ b) (ids ++ more) → AreChanges (ids ++ more) before after c
   changes_are differ =
-      let within : AreWithin (ids ++ more) items = within_more (length ids) (length (ids ++ more)) items (omega (arith, length-append ids more)) are.within in
-      let first : AreMatchedEnds (map (end_at (ids ++ more)) items) before = subst (λ (l : List End). AreMatchedEnds l before) (sym (names_left ids more items are.within)) are.ends in
+      let all = ids ++ more in
+      let olds = grouped_items items in
+      let news = grouped_items (items ++ new) in
+      let within : AreWithin all olds = grouped_within all items (within_more (length ids) (length all) items (omega (arith, length-append ids more)) are.within) in
+      let within' : AreWithin all news = grouped_within all (items ++ new) are'.within in
+      let first : AreMatchedEnds (map (end_at all) items) before = subst (λ (l : List End). AreMatchedEnds l before) (sym (names_left ids more items are.within)) are.ends in
+      let ends = ends_regrouped (events_of before) all items first in
+      let ends' = ends_regrouped (events_of after) all (items ++ new) are'.ends in
       record {
-        added = named_anew (ids ++ more) items (items ++ new) before after differ within are'.within first are'.ends c.added.items added;
-        withdrawn = named_anew (ids ++ more) (items ++ new) items after before differ are'.within within are'.ends first c.withdrawn.items withdrawn;
+        added = named_anew all olds news before after differ within within' ends ends' c.added.items added;
+        withdrawn = named_anew all news olds after before differ within' within ends' ends c.withdrawn.items withdrawn;
       }
 
 -- ---- items, one event after another

@@ -9,10 +9,10 @@ use Rattle.std.proofs.lemmas.Option.{get_or_from_slice_get}
 use Rattle.problem_model.specs.Limits.{most_items}
 use Rattle.traces.specs.declared.event.Side.{Side}
 use Rattle.traces.specs.declared.event.Side.TheVariants.{Send, Receive}
-use Rattle.traces.specs.Seen.{EventKey, Word, is_same_key}
+use Rattle.traces.specs.Seen.{EventKey, is_same_key}
 use Rattle.msg_match.specs.declared.entry.Entry.{Entry}
 use Rattle.msg_match.specs.Groups.{SeenItem, SeenGroup, each_once, events_with, group_of, keys_of, group_size}
-use Rattle.msg_match.specs.Parts.{empty_group, entry_with_key, group_at_place, group_before, groups_before, keys_before, keys_in, shorter, with_entry, without_last}
+use Rattle.msg_match.specs.Parts.{empty_group, entry_with_key, group_at_place, group_before, groups_before, keys_before, keys_in, no_key, shorter, with_entry, without_last}
 use Rattle.msg_match.specs.Inside.{AreGrouped, item_by, items_by}
 use Rattle.msg_match.proofs.Distinct.{AreApart, any_once, known_at, once_apart, once_known, once_new}
 use Rattle.msg_match.proofs.Grouping.{exact_keys, group_own, made, map_at, map_others, none_with, some_with}
@@ -48,7 +48,7 @@ items_front : (ks : List EventKey) (k : EventKey) (log : List Entry) → All (λ
 items_front ks k [] within = refl
 items_front ks k (e ∷ log) within =
     let P : Entry → Type 0 = λ e'. e'.place < length ks in
-    let at : get_or (ks ++ k ∷ []) e.place (Word []) ≡ get_or ks e.place (Word []) = get_or_append_left ks (k ∷ []) (Word []) e.place (All-head P e log within) in
+    let at : get_or (ks ++ k ∷ []) e.place no_key ≡ get_or ks e.place no_key = get_or_append_left ks (k ∷ []) no_key e.place (All-head P e log within) in
     ap (λ (key : EventKey). with_key e key ∷ items_by (ks ++ k ∷ []) log) at ∙ ap (λ (l : List SeenItem). item_by ks e ∷ l) (items_front ks k log (All-tail P e log within))
 
 -- where no event has the last key, all have places before it
@@ -56,11 +56,11 @@ places_front : (ks : List EventKey) (k : EventKey) (log : List Entry) → All (�
 places_front ks k [] within none = All-nil (λ (e : Entry). e.place < length ks)
 places_front ks k (e ∷ log) within none =
     let P : Entry → Type 0 = λ e'. e'.place < length (ks ++ k ∷ []) in
-    let key = get_or (ks ++ k ∷ []) e.place (Word []) in
+    let key = get_or (ks ++ k ∷ []) e.place no_key in
     let both = or_parts (is_same_key k key) (list_any (is_same_key k) (map key_in (items_by (ks ++ k ∷ []) log))) none in
     let inside : e.place < length (ks ++ k ∷ []) = All-head P e log within in
     let before : e.place < length ks = elim (cases_eq e.place (length ks)) [
-      | inl last ↦ (let is : key ≡ k = get_or_at ks k [] (Word []) e.place (sym last) in absurd (false≢true (sym both.0 ∙ subst (λ (j : EventKey). is_same_key k j ≡ true) (sym is) (exact_keys.own k))))
+      | inl last ↦ (let is : key ≡ k = get_or_at ks k [] no_key e.place (sym last) in absurd (false≢true (sym both.0 ∙ subst (λ (j : EventKey). is_same_key k j ≡ true) (sym is) (exact_keys.own k))))
       | inr other ↦ omega (arith, inside, length_push ks k)
     ] in
     All-cons (λ (e' : Entry). e'.place < length ks) e log before (places_front ks k log (All-tail P e log within) both.1)
@@ -72,7 +72,7 @@ one_less : (n m top : ℕ) → m ≡ n + 1 → m ≤ top → n ≤ top
 one_less n m top is below = omega (arith, is, below)
 
 abbrev first_group : SeenGroup
-first_group = empty_group (Word [])
+first_group = empty_group no_key
 
 pub kept_as : (keys keys' : List EventKey) (log log' : List Entry) (groups groups' : List SeenGroup) → keys' ≡ keys → log' ≡ log → groups' ≡ groups → AreGrouped keys log groups → AreGrouped keys' log' groups'
 kept_as keys keys' log log' groups groups' same_keys same_log same_groups kept =
@@ -82,7 +82,7 @@ kept_as keys keys' log log' groups groups' same_keys same_log same_groups kept =
 pub items_at : (keys : List EventKey) (log : List Entry) (place event : ℕ) (side : Side) (key : EventKey) → slice_get keys place ≡ Some key
     → items_by keys (log ++ entry_with_key event side place ∷ []) ≡ items_by keys log ++ (record { event = event; side = side; key = key }) ∷ []
 items_at keys log place event side key at =
-    map_push (item_by keys) log (entry_with_key event side place) ∙ ap (λ (k : EventKey). items_by keys log ++ with_key (entry_with_key event side place) k ∷ []) (get_or_from_slice_get keys place key (Word []) at)
+    map_push (item_by keys) log (entry_with_key event side place) ∙ ap (λ (k : EventKey). items_by keys log ++ with_key (entry_with_key event side place) k ∷ []) (get_or_from_slice_get keys place key no_key at)
 
 -- an event of a key that is there
 pub kept_at : (keys : List EventKey) (log : List Entry) (groups : List SeenGroup) (e : Entry) → AreGrouped keys log groups → e.place < length keys → length log < most_items
@@ -93,12 +93,12 @@ kept_at keys log groups e kept inside room =
     let joined : items_by keys (log ++ e ∷ []) ≡ items ++ y ∷ [] = map_push (item_by keys) log e in
     let apart : AreApart is_same_key keys = subst (AreApart is_same_key) (sym kept.ordered) (keys_apart items) in
     let there : list_any (is_same_key y.key) (map key_in items) ≡ true =
-    sym (any_of items y.key) ∙ subst (λ (ks : List EventKey). list_any (is_same_key y.key) ks ≡ true) kept.ordered (known_at is_same_key exact_keys keys e.place (Word []) y.key inside refl) in record {
+    sym (any_of items y.key) ∙ subst (λ (ks : List EventKey). list_any (is_same_key y.key) ks ≡ true) kept.ordered (known_at is_same_key exact_keys keys e.place no_key y.key inside refl) in record {
       few = one_more (length log) (length (log ++ e ∷ [])) (most_items) (length_push log e) room;
       within = All-push (λ (e' : Entry). e'.place < length keys) log e kept.within inside;
       ordered = kept.ordered ∙ sym (keys_known items y there) ∙ ap keys_of (sym joined);
       grouped = ap (λ (gs : List SeenGroup). set gs e.place (with_entry (get_or gs e.place first_group) e.side e.event)) kept.grouped
-          ∙ map_at items y keys e.place (Word []) first_group apart inside refl
+          ∙ map_at items y keys e.place no_key first_group apart inside refl
           ∙ ap (λ (is : List SeenItem). map (group_of is) keys) (sym joined);
     }
 
@@ -119,7 +119,7 @@ pub items_first : (keys : List EventKey) (log : List Entry) (groups : List SeenG
 items_first keys log groups key event side kept =
     let e = entry_with_key event side (length groups) in
     let keys' = keys ++ key ∷ [] in
-    let last : get_or keys' (length groups) (Word []) ≡ key = get_or_at keys key [] (Word []) (length groups) (sym (same_length keys log groups kept)) in
+    let last : get_or keys' (length groups) no_key ≡ key = get_or_at keys key [] no_key (length groups) (sym (same_length keys log groups kept)) in
     map_push (item_by keys') log e ∙ ap (λ (l : List SeenItem). l ++ item_by keys' e ∷ []) (items_front keys key log kept.within) ∙ ap (λ (k : EventKey). items_by keys log ++ with_key e k ∷ []) last
 
 pub kept_first : (keys : List EventKey) (log : List Entry) (groups : List SeenGroup) (key : EventKey) (event : ℕ) (side : Side) → AreGrouped keys log groups → list_any (is_same_key key) keys ≡ false → length log < most_items
@@ -182,7 +182,7 @@ module _ (keys : List EventKey) (log : List Entry) (groups : List SeenGroup) (e 
   filled = with_entry (get_or whole e.place first_group) e.side e.event
 
   groups_are : set whole e.place filled ≡ groups
-  groups_are = map_at held last_item keys e.place (Word []) first_group apart before.1 refl ∙ ap (λ (is : List SeenItem). map (group_of is) keys) (sym joined) ∙ sym kept.grouped
+  groups_are = map_at held last_item keys e.place no_key first_group apart before.1 refl ∙ ap (λ (is : List SeenItem). map (group_of is) keys) (sym joined) ∙ sym kept.grouped
 
   inside : e.place < length whole
   inside = subst (λ (n : ℕ). e.place < n) (sym (length-map keys (group_of held))) before.1
@@ -202,7 +202,7 @@ module _ (keys : List EventKey) (log : List Entry) (groups : List SeenGroup) (e 
       ∙ set-get_or whole e.place first_group
 
   size_is : group_size (group_before groups e) ≡ group_size (group_of held last_item.key)
-  size_is = ap group_size (group_is ∙ get_or-map (group_of held) keys e.place (Word []) first_group before.1)
+  size_is = ap group_size (group_is ∙ get_or-map (group_of held) keys e.place no_key first_group before.1)
 
   few' : length log ≤ most_items
   few' = one_less (length log) (length (log ++ e ∷ [])) (most_items) (length_push log e) kept.few

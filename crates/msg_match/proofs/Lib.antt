@@ -14,9 +14,15 @@ pub mod Names
 pub mod Sorting
 mod Firsts
 pub mod Gathered
+pub mod GroupedEnds
+mod Scanned
+mod Stops
+mod AllCouples
+mod Kept
 mod Coupled
 mod Renamed
 mod Counted
 pub mod ByNumber
 pub mod Growing
 pub mod Grown
+mod Worked

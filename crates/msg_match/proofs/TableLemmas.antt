@@ -1,16 +1,16 @@
 -- Groups in a table, with one of them changed.
 use Rattle.std.proofs.Common.{◌≡◌, ℕ, ◌<◌, ◌-◌, List, [], ◌∷◌, ◌++◌, length, set, take, get_or, Bool, true, false, ◌==◌, cond, refl, sym, ap, subst, ◌∙◌}
-use Rattle.std.specs.Prelude.{Result, Ok, Err, OnOk, OnErr}
+use Rattle.std.specs.Prelude.{Result, Ok, Err, IfOk, OnOk, OnErr}
 use Rattle.std.proofs.lemmas.List.{get_or-map, length-map, map_push, map-set, set-get_or, take-map}
 use Rattle.interner.specs.Numbers.{IsLast}
 use Rattle.traces.specs.declared.event.Side.{Side}
 use Rattle.traces.specs.declared.event.Side.TheVariants.{Send, Receive}
-use Rattle.traces.specs.Seen.{EventKey, Word, is_same_key, key_of}
+use Rattle.traces.specs.Seen.{EventKey, is_same_key, key_of}
 use Rattle.msg_match.specs.declared.entry.Entry.{Entry}
 use Rattle.msg_match.specs.declared.group.Group.{Group}
 use Rattle.msg_match.specs.Groups.{SeenGroup, group_size}
 use Rattle.msg_match.specs.Held.{seen_group, seen_groups}
-use Rattle.msg_match.specs.Parts.{group_at_place, group_before, groups_before, keys_in, shorter, without_last}
+use Rattle.msg_match.specs.Parts.{group_at_place, group_before, groups_before, keys_in, no_key, shorter, without_last}
 use Rattle.msg_match.proofs.Grouping.{exact_keys}
 
 abbrev key_at : SeenGroup → EventKey
@@ -64,8 +64,8 @@ module _ (groups : List Group) (e : Entry) (old new : Group) (inside : e.place <
   same_keys =
       let gs = seen_groups groups in
       let within : e.place < length gs = subst (λ (n : ℕ). e.place < n) (sym (length-map groups seen_group)) inside in
-      let key : (group_before gs e).key ≡ get_or (keys_in gs) e.place (Word []) = key_less (group_at_place gs e.place) e.side ∙ sym (get_or-map key_at gs e.place (group_at_place [] 0) (Word []) within) in
-      ap keys_in less ∙ map-set key_at gs e.place (group_before gs e) ∙ ap (λ (k : EventKey). set (keys_in gs) e.place k) key ∙ set-get_or (keys_in gs) e.place (Word [])
+      let key : (group_before gs e).key ≡ get_or (keys_in gs) e.place no_key = key_less (group_at_place gs e.place) e.side ∙ sym (get_or-map key_at gs e.place (group_at_place [] 0) no_key within) in
+      ap keys_in less ∙ map-set key_at gs e.place (group_before gs e) ∙ ap (λ (k : EventKey). set (keys_in gs) e.place k) key ∙ set-get_or (keys_in gs) e.place no_key
 
   -- so the last group has the last key
   pub last_has : (keys : List EventKey) (rest : List Group) (last : Group) → keys_in (seen_groups groups) ≡ keys → set groups e.place new ≡ rest ++ last ∷ [] → IsLast (is_same_key (key_of last.key)) keys
@@ -98,3 +98,20 @@ then_ok2 (Err e) P a b so = tt
 pub so_err : {T E : Type 0} (r : Result T E) (P : Type 0) → P → OnErr r P
 so_err (Ok x) P p = tt
 so_err (Err e) P p = p
+
+-- what is so of a value by two facts of it
+pub if_ok2 : {T E : Type 0} (r : Result T E) (P Q R : T → Type 0) → IfOk r P → IfOk r Q → ((x : T) → P x → Q x → R x) → IfOk r R
+if_ok2 (Ok x) P Q R a b so = so x a b
+if_ok2 (Err e) P Q R a b so = tt
+
+-- ---- events of a table
+-- the key of a group is the one at its place
+pub key_there : (keys : List EventKey) (groups : List Group) (place : ℕ) (g : Group) → keys_in (seen_groups groups) ≡ keys → place < length keys → g ≡ get_or groups place g → key_of g.key ≡ get_or keys place no_key
+key_there keys groups place g kept inside is =
+    let gs = seen_groups groups in
+    let many : length gs ≡ length keys = sym (length-map gs key_at) ∙ ap length kept in
+    let within : place < length gs = subst (λ (n : ℕ). place < n) (sym many) inside in
+    let within' : place < length groups = subst (λ (n : ℕ). place < n) (length-map groups seen_group) within in
+    ap (λ (h : SeenGroup). h.key) (seen_at groups place g (group_at_place [] 0) within' is)
+    ∙ sym (get_or-map key_at gs place (group_at_place [] 0) no_key within)
+    ∙ ap (λ (ks : List EventKey). get_or ks place no_key) kept

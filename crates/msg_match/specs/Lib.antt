@@ -1,6 +1,8 @@
 pub mod Groups
 pub mod Messages
 pub mod Held
+pub mod Windowed
+pub mod Series
 pub mod Changes
 pub mod Parts
 pub mod Inside

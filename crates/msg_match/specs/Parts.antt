@@ -1,5 +1,5 @@
 -- What the parts of a matcher promise each other.
-use Rattle.std.specs.Prelude.{◌≡◌, ℕ, ◌-◌, ◌==◌, List, [], ◌∷◌, ◌++◌, length, map, take, slice_set, slice_index_or, sum_by, Some, Option, None, Bool, ◌&&◌, if◌then◌else◌, Contains, AllPairs, ◌≢◌}
+use Rattle.std.specs.Prelude.{◌≡◌, ℕ, ◌-◌, ◌==◌, List, [], ◌∷◌, ◌++◌, length, map, take, slice_set, slice_index_or, sum_by, Some, Option, None, Bool, ◌&&◌, if◌then◌else◌, Contains, AllPairs, ◌≢◌, filter, not}
 use Rattle.std.specs.List.{list_any}
 use Rattle.traces.specs.declared.event.Side.{Side}
 use Rattle.traces.specs.declared.event.Side.TheVariants.{Send, Receive}
@@ -7,6 +7,7 @@ use Rattle.traces.specs.Seen.{EventKey, Word}
 use Rattle.msg_match.specs.declared.change.Couple.{Couple}
 use Rattle.msg_match.specs.declared.change.Tallies.{Tallies}
 use Rattle.msg_match.specs.declared.entry.Entry.{Entry}
+use Rattle.msg_match.specs.Messages.{IsMessage}
 use Rattle.msg_match.specs.Groups.{SeenItem, SeenGroup, group_of, couple_of, group_size, is_matched, is_ambiguous, is_unmatched}
 
 -- ---- one group
@@ -29,9 +30,13 @@ without_last g Send = record { key = g.key; sends = shorter g.sends; receives = 
 without_last g Receive = record { key = g.key; sends = g.sends; receives = shorter g.receives }
 
 -- ---- tables
+-- what stands for the key of no event
+abbrev pub no_key : EventKey
+no_key = record { message = Word []; moment = None }
+
 -- the group at a place
 abbrev pub group_at_place : List SeenGroup → ℕ → SeenGroup
-group_at_place groups place = slice_index_or groups place (empty_group (Word []))
+group_at_place groups place = slice_index_or groups place (empty_group no_key)
 
 -- an event whose key has this place
 abbrev pub entry_with_key : ℕ → Side → ℕ → Entry
@@ -86,6 +91,10 @@ abbrev pub noted : List Couple → Option Couple → List Couple
 noted found None = found
 noted found (Some m) = if list_any (is_same_couple m) found then found else found ++ m ∷ []
 
+-- those that are not among others
+abbrev pub left_of : List Couple → List Couple → List Couple
+left_of others found = filter (λ (m : Couple). not (list_any (is_same_couple m) others)) found
+
 -- the couple is the message of a key of one of these events
 abbrev pub IsCoupleOf : List SeenItem → List SeenItem → Couple → Type 0
 IsCoupleOf items some m = (x : SeenItem) × Contains some x × (couple_of (group_of items x.key) ≡ Some m)
@@ -94,4 +103,20 @@ IsCoupleOf items some m = (x : SeenItem) × Contains some x × (couple_of (group
 pub record AreCouplesOf (items some : List SeenItem) (found : List Couple) : Type 0 where
   pub only : (m : Couple) → Contains found m → IsCoupleOf items some m
   pub all : (m : Couple) → IsCoupleOf items some m → Contains found m
+  pub once : AllPairs (λ (a b : Couple). a ≢ b) found
+
+-- these are just the couples of all keys, each once
+pub record AreAllCouples (items : List SeenItem) (found : List Couple) : Type 0 where
+  pub only : (m : Couple) → Contains found m → IsMessage items m
+  pub all : (m : Couple) → IsMessage items m → Contains found m
+  pub once : AllPairs (λ (a b : Couple). a ≢ b) found
+
+-- the couple is that of one of these groups
+abbrev pub IsCoupleIn : List SeenGroup → Couple → Type 0
+IsCoupleIn groups m = (g : SeenGroup) × Contains groups g × (couple_of g ≡ Some m)
+
+-- these are just the couples of some groups, each once
+pub record AreCouplesIn (groups : List SeenGroup) (found : List Couple) : Type 0 where
+  pub only : (m : Couple) → Contains found m → IsCoupleIn groups m
+  pub all : (m : Couple) → IsCoupleIn groups m → Contains found m
   pub once : AllPairs (λ (a b : Couple). a ≢ b) found

@@ -1,6 +1,7 @@
 // Messages, each once.
-ghost use Rattle.std.specs.Prelude.{◌≡◌, ◌++◌, ◌∷◌, [], None, OnOk, position};
-ghost use Rattle.msg_match.specs.Parts.{is_same_couple, noted};
+ghost use Rattle.std.specs.Prelude.{◌≡◌, ◌++◌, ◌∷◌, [], None, OnOk, IfOk, position};
+ghost use Rattle.std.specs.List.{list_any};
+ghost use Rattle.msg_match.specs.Parts.{is_same_couple, left_of, noted};
 
 use crate::Couple;
 use interner::Places;
@@ -58,6 +59,26 @@ impl Couples {
                 None => self.push(couple),
             },
         }
+    }
+
+    // Whether a message is there.
+    fn has(&self, couple: &Couple) -> bool
+        ensures { result ≡ list_any (is_same_couple couple.now) self.now }
+    {
+        self.places.place(couple).is_some()
+    }
+
+    // Those that are not among others, in their order; an error where memory runs out.
+    pub(crate) fn without(&self, others: &Couples) -> Result<Vec<Couple>, AllocError>
+        ensures { IfOk result (λ left. left.items ≡ left_of others.now self.now) }
+    {
+        let mut left = Vec::new(*self.list.allocator());
+        for couple in &self.list {
+            if !others.has(couple) {
+                left.push(*couple)?;
+            }
+        }
+        Ok(left)
     }
 
     // All of them.

@@ -34,6 +34,13 @@ impl Keys {
         }
     }
 
+    // How many there are.
+    pub(crate) fn len(&self) -> usize
+        ensures { result ≡ length self.now }
+    {
+        self.places.len()
+    }
+
     // The place of a key, where it is there.
     pub(crate) fn place(&self, key: &Key) -> Option<usize>
         ensures some { IfSome result (λ k. slice_get self.now k ≡ Some (key_of key.now)) }

@@ -1,47 +1,57 @@
 // Messages among all events that were added.
-ghost use Rattle.std.specs.Prelude.{◌≡◌, ◌<◌, ◌≤◌, ◌-◌, ◌+◌, ◌++◌, ◌∷◌, [], List, length, take, slice_get, OnOk, OnErr, IfOk};
+ghost use Rattle.std.specs.Prelude.{◌≡◌, ◌≤◌, ◌+◌, ◌++◌, [], length, slice_get, OnOk, OnErr, IfOk};
 ghost use Rattle.problem_model.specs.Limits.{most_items};
-ghost use Rattle.traces.specs.Seen.{key_of};
-ghost use Rattle.msg_match.specs.Groups.{SeenItem, couple_of, group_of, groups_of, ambiguous_groups};
+ghost use Rattle.msg_match.specs.Groups.{groups_of, ambiguous_groups};
 ghost use Rattle.msg_match.specs.Messages.{tallies};
-ghost use Rattle.msg_match.specs.Held.{seen_item, seen_items, seen_found, seen_groups};
-ghost use Rattle.msg_match.specs.Changes.{HaveOwnNumbers, AreMessagesAnew};
-ghost use Rattle.msg_match.specs.Parts.{AreCouplesOf};
+ghost use Rattle.msg_match.specs.Held.{seen_items, seen_found, seen_groups};
+ghost use Rattle.msg_match.specs.Changes.{HaveOwnNumbers, AreCouplesAnew, AreMessagesAnew};
+ghost use Rattle.msg_match.specs.Windowed.{grouped_items};
 
-use crate::couples::Couples;
-use crate::entry::Entry;
-use crate::keys::Keys;
-use crate::tables::{push_at, push_first, take_back};
-use crate::tallies::{ambiguous_count, ambiguous_group, sum};
-use crate::{Change, Couple, Group, Item, Tallies};
+use crate::key_matcher::KeyMatcher;
+use crate::regrouping::{append_copies, are_untimed, by_groups};
+use crate::{Change, Group, Item, Tallies};
 use std::alloc::{AllocError, Global};
 use std::marker::Model;
-use traces::Key;
 
-/// The events that are ends of messages, and which of them are a message. It is seen as the list of all events that were
-/// added, at most 2^22.
+/// The events that are ends of messages, and which of them are a message. It is seen as the list of all events that
+/// were added, at most 2^22.
 ///
-/// Two events are a message where one is the only send of a key and the other the only receive of that key, among all
-/// events that were added. An ambiguous key has sends and receives, and two of the ones or the others at least: nobody can
-/// tell which belong together.
+/// Events of one key are of one group. Where their keys have moments, the events of one message and one window are
+/// ordered by their times, and neighbours that lie the window apart at most are of one group. Two events are a
+/// message where one is the only send of a group and the other its only receive, among all events that were added. An
+/// ambiguous group has sends and receives, and two of the ones or the others at least: nobody can tell which belong
+/// together.
 #[derive(Drop)]
 pub struct Matcher {
-    log: Vec<Entry>,
-    keys: Keys,
-    groups: Vec<Group>,
+    // The events, each by the key of its group: the moment tells when the group begins.
+    by_group: KeyMatcher,
+    // The events as they came, where one has a moment; else none.
+    timed: Vec<Item>,
 }
 
 impl Model for Matcher {
     ghost use Rattle.std.specs.Prelude.{List};
     ghost use Rattle.msg_match.specs.Groups.{SeenItem};
-    ghost use Rattle.msg_match.specs.Held.{seen_groups};
-    ghost use Rattle.msg_match.specs.Inside.{items_by, AreGrouped};
+    ghost use Rattle.msg_match.specs.Held.{seen_items};
+    ghost use Rattle.msg_match.specs.Inside.{AreKept, events_kept};
 
     ghost Value = { List SeenItem };
 
-    ghost view = { λ m. items_by m.keys m.log.items };
+    ghost view = { λ m. events_kept m.by_group (seen_items m.timed.items) };
 
-    ghost invariant = { λ m. AreGrouped m.keys m.log.items (seen_groups m.groups.items) };
+    ghost invariant = { λ m. AreKept m.by_group (seen_items m.timed.items) };
+}
+
+// The messages that come and go between two lists of events by their groups; an error where memory runs out.
+fn change_between(before: &KeyMatcher, after: &KeyMatcher) -> Result<Change, AllocError>
+    ensures added { IfOk result (λ change. AreCouplesAnew before.now after.now change.added.items) }
+    ensures withdrawn { IfOk result (λ change. AreCouplesAnew after.now before.now change.withdrawn.items) }
+{
+    let olds = before.messages()?;
+    let news = after.messages()?;
+    let added = news.without(&olds)?;
+    let withdrawn = olds.without(&news)?;
+    Ok(Change { added, withdrawn })
 }
 
 impl Matcher {
@@ -50,90 +60,56 @@ impl Matcher {
         ensures { result ≡ [] }
     {
         Matcher {
-            log: Vec::new(alloc),
-            keys: Keys::new(alloc),
-            groups: Vec::new(alloc),
+            by_group: KeyMatcher::new(alloc),
+            timed: Vec::new(alloc),
         }
     }
 
-    // How many events were added.
-    fn len(&self) -> usize
-        ensures count { result ≡ length self.now }
-        ensures few { length self.now ≤ most_items }
+    // All events once more; an error where memory runs out.
+    fn events(&self) -> Result<Vec<Item>, AllocError>
+        ensures { IfOk result (λ events. seen_items events.items ≡ self.now) }
     {
-        self.log.len()
-    }
-
-    // The message of a key, where it has one send and one receive among all events.
-    fn couple(&self, key: &Key) -> Option<Couple>
-        ensures { result ≡ couple_of (group_of self.now (key_of key.now)) }
-    {
-        let place = self.keys.place(key)?;
-        self.groups[place].couple()
-    }
-
-    // The messages of the keys of some events, each once; an error where memory runs out.
-    fn couples(&self, items: &[Item]) -> Result<Vec<Couple>, AllocError>
-        ensures { IfOk result (λ found. AreCouplesOf self.now (seen_items items.now) found.items) }
-    {
-        let alloc = *self.log.allocator();
-        let mut found = Couples::new(alloc);
-        for item in items {
-            found.note(self.couple(&item.key))?;
+        if self.timed.is_empty() {
+            return self.by_group.items();
         }
-        Ok(found.into_list())
+        let mut events = Vec::new(*self.timed.allocator());
+        append_copies(&mut events, &self.timed)?;
+        Ok(events)
     }
 
-    // Appends an event. All stays as before where memory runs out.
-    fn push(&mut self, item: &Item) -> Result<(), AllocError>
-        requires { length self.old < most_items }
-        ensures ok { OnOk result (self.new ≡ self.old ++ seen_item item.now ∷ []) }
-        ensures err { OnErr result (self.new ≡ self.old) }
+    // The same events and these behind them, made anew; an error where memory runs out.
+    fn with(&self, items: &[Item]) -> Result<Matcher, AllocError>
+        requires { length self.now + length items.now ≤ most_items }
+        ensures { IfOk result (λ anew. anew ≡ self.now ++ seen_items items.now) }
     {
-        match self.keys.place(&item.key) {
-            Some(place) => push_at(&mut self.groups, &mut self.log, place, item),
-            None => push_first(&mut self.keys, &mut self.groups, &mut self.log, item),
-        }
+        let mut timed = self.events()?;
+        append_copies(&mut timed, items)?;
+        let by_group = by_groups(*timed.allocator(), &timed)?;
+        Ok(Matcher { by_group, timed })
     }
 
-    // Takes the last event away, where there is one.
-    fn pop(&mut self)
-        ensures { self.new ≡ take (length self.old - 1) self.old }
-    {
-        if let Some(entry) = self.log.pop() {
-            take_back(&mut self.keys, &mut self.groups, entry);
-        }
-    }
-
-    // Takes all events behind the first `len` away. The time goes by those that are taken away.
-    fn truncate(&mut self, len: usize)
-        requires { len ≤ length self.old }
-        ensures { self.new ≡ take len self.old }
-    {
-        while self.len() > len {
-            self.pop();
-        }
-    }
-
-    // Appends events, and answers the messages of their keys. Where memory runs out, some of them may stay.
-    fn append(&mut self, items: &[Item]) -> Result<Vec<Couple>, AllocError>
+    // Adds events, where some of all have a moment: all groups are made anew. All stays as before where memory runs
+    // out.
+    fn add_timed(&mut self, items: &[Item]) -> Result<Change, AllocError>
         requires { length self.old + length items.now ≤ most_items }
         ensures ok { OnOk result (self.new ≡ self.old ++ seen_items items.now) }
-        ensures found { IfOk result (λ found. AreCouplesOf self.new (seen_items items.now) found.items) }
-        ensures err { OnErr result ((some : List SeenItem) × (self.new ≡ self.old ++ some)) }
+        ensures added { IfOk result (λ change. AreMessagesAnew self.old self.new change.added.items) }
+        ensures withdrawn { IfOk result (λ change. AreMessagesAnew self.new self.old change.withdrawn.items) }
+        ensures err { OnErr result (self.new ≡ self.old) }
     {
-        for item in items {
-            self.push(item)?;
-        }
-        self.couples(items)
+        let anew = self.with(items)?;
+        let change = change_between(&self.by_group, &anew.by_group)?;
+        *self = anew;
+        Ok(change)
     }
 
     /// Adds events, and answers how they change the messages. Where memory runs out there is an error, and all is as
     /// before.
     ///
     /// No two events have the same number, those before included, and there are at most 2^22 in all. A message that
-    /// comes and goes again within the events added is in neither list. The time goes by the events that are added; for
-    /// each, a key is looked up among all by some log n comparisons, whatever the keys are.
+    /// comes and goes again within the events added is in neither list. Where no event has a moment, the time goes by
+    /// the events that are added; for each, a key is looked up among all by some log n comparisons, whatever the keys
+    /// are. Where one has, all n events are grouped anew, in some n log n comparisons.
     pub fn add(&mut self, items: &[Item]) -> Result<Change, AllocError>
         requires few { length self.old + length items.now ≤ most_items }
         requires differ { HaveOwnNumbers (self.old ++ seen_items items.now) }
@@ -142,44 +118,40 @@ impl Matcher {
         ensures withdrawn { IfOk result (λ change. AreMessagesAnew self.new self.old change.withdrawn.items) }
         ensures err { OnErr result (self.new ≡ self.old) }
     {
-        let before = self.len();
-        let withdrawn = self.couples(items)?;
-        match self.append(items) {
-            Ok(added) => Ok(Change { added, withdrawn }),
-            Err(error) => {
-                self.truncate(before);
-                Err(error)
-            }
+        if self.timed.is_empty() && are_untimed(items) {
+            self.by_group.add(items)
+        } else {
+            self.add_timed(items)
         }
     }
 
-    /// How many messages there are, unmatched events (in no message, and their key is not ambiguous), and events with ambiguous
-    /// keys. The time goes by the keys.
+    /// How many messages there are, unmatched events (in no message, and their group is not ambiguous), and events of
+    /// ambiguous groups. The time goes by the groups.
     pub fn tallies(&self) -> Tallies
-        ensures { result ≡ tallies self.now }
+        ensures { result ≡ tallies (grouped_items self.now) }
     {
-        sum(&self.groups)
+        self.by_group.tallies()
     }
 
-    /// How many keys are ambiguous, at most 2^22.
+    /// How many groups are ambiguous, at most 2^22.
     pub fn groups(&self) -> u32
-        ensures { result ≡ length (ambiguous_groups self.now) }
+        ensures { result ≡ length (ambiguous_groups (grouped_items self.now)) }
     {
-        ambiguous_count(&self.groups)
+        self.by_group.groups()
     }
 
-    /// The events of an ambiguous key. Such keys are counted from 0 on, in the order in which they first came; None
-    /// exactly from `groups` on.
+    /// The events of an ambiguous group, whose key tells when the group begins. Such groups are counted from 0 on, in
+    /// the order in which they first came; None exactly from `groups` on.
     pub fn group(&self, k: u32) -> Option<&Group>
-        ensures { seen_found result ≡ slice_get (ambiguous_groups self.now) k }
+        ensures { seen_found result ≡ slice_get (ambiguous_groups (grouped_items self.now)) k }
     {
-        ambiguous_group(&self.groups, k)
+        self.by_group.group(k)
     }
 
-    /// The events of each key, ambiguous or not, in the order in which the keys first came.
+    /// The events of each group, ambiguous or not, in the order in which the groups first came.
     pub fn all_groups(&self) -> &[Group]
-        ensures { seen_groups result.now ≡ groups_of self.now }
+        ensures { seen_groups result.now ≡ groups_of (grouped_items self.now) }
     {
-        &self.groups
+        self.by_group.all_groups()
     }
 }

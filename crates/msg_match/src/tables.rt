@@ -1,25 +1,59 @@
 // The tables of a matcher, changed by one event.
-ghost use Rattle.std.specs.Prelude.{◌≡◌, ◌<◌, ◌≤◌, ◌++◌, ◌∷◌, [], length, slice_set, false, OnOk, OnErr, IfOk};
+ghost use Rattle.std.specs.Prelude.{◌≡◌, ◌<◌, ◌≤◌, ◌++◌, ◌∷◌, [], length, slice_set, false, OnOk, OnErr, IfOk, option_map};
 ghost use Rattle.std.specs.List.{list_any};
 ghost use Rattle.problem_model.specs.Limits.{most_items};
-ghost use Rattle.traces.specs.Seen.{key_of, is_same_key};
+ghost use Rattle.traces.specs.Seen.{key_of, message_of, seen_moment, is_same_key};
 ghost use Rattle.msg_match.specs.Held.{seen_groups};
+ghost use Rattle.msg_match.specs.Series.{key_at, moment_at};
 ghost use Rattle.msg_match.specs.Parts.{group_at_place, with_entry, empty_group, entry_with_key, groups_before, keys_before, keys_in};
 
 use crate::entry::Entry;
 use crate::keys::Keys;
 use crate::{Group, Item};
 use std::alloc::AllocError;
-use traces::Key;
+use traces::{Key, MessageKey, Moment};
+
+// What a message is known by, once more; an error where memory runs out.
+fn copy_message(message: &MessageKey) -> Result<MessageKey, AllocError>
+    ensures { IfOk result (λ copy. message_of copy ≡ message_of message.now) }
+{
+    match message {
+        MessageKey::Packet(packet) => Ok(MessageKey::Packet(packet.clone()?)),
+        MessageKey::Word(word) => Ok(MessageKey::Word(*word)),
+    }
+}
+
+// The moment of a key at another time, where it has one.
+fn moment_at(key: &Key, time: i64) -> Option<Moment>
+    ensures { option_map seen_moment result ≡ moment_at (option_map seen_moment key.now.moment) time }
+{
+    match key.moment {
+        None => None,
+        Some(moment) => Some(Moment {
+            time,
+            window: moment.window,
+        }),
+    }
+}
+
+/// A key once more, of another time where it has one; an error where memory runs out.
+pub(crate) fn key_at(key: &Key, time: i64) -> Result<Key, AllocError>
+    ensures { IfOk result (λ copy. key_of copy ≡ key_at (key_of key.now) time) }
+{
+    let message = copy_message(&key.message)?;
+    let moment = moment_at(key, time);
+    Ok(Key { message, moment })
+}
 
 /// A key once more; an error where memory runs out.
 pub(crate) fn copy_key(key: &Key) -> Result<Key, AllocError>
     ensures { IfOk result (λ copy. key_of copy ≡ key_of key.now) }
 {
-    match key {
-        Key::Packet(packet) => Ok(Key::Packet(packet.clone()?)),
-        Key::Word(word) => Ok(Key::Word(*word)),
-    }
+    let message = copy_message(&key.message)?;
+    Ok(Key {
+        message,
+        moment: key.moment,
+    })
 }
 
 // Appends an event whose key has this place. All stays as before where memory runs out.

@@ -1,3 +1,4 @@
+mod Latest
 mod Only
 mod Taken
 mod Follows

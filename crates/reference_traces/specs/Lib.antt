@@ -1,3 +1,4 @@
 pub mod Ends
+pub mod Groups
 pub mod Known
 pub mod Added

@@ -5,6 +5,7 @@
 
 mod additions;
 mod couples;
+mod groups;
 mod items;
 mod parts;
 mod problems;

@@ -1,5 +1,5 @@
 -- The clocks of one host, walked back and on from the clock of a new reading.
-use Rattle.std.proofs.Common.{◌≡◌, ◌<◌, ◌≤◌, ◌+◌, ◌-◌, ℕ, zero, suc, true, false, is_some, List, length, get_or, slice_get, Option, Some, None, refl, sym, ◌∙◌, ap, subst, arith, inl, inr}
+use Rattle.std.proofs.Common.{◌≡◌, ◌<◌, ◌≤◌, ◌+◌, ◌-◌, ℕ, zero, suc, true, false, is_some, List, length, get_or, slice_get, Option, Some, None, pos, refl, sym, ◌∙◌, ap, subst, arith, inl, inr}
 use Rattle.std.specs.Prelude.{Contains}
 use Rattle.std.proofs.lemmas.Bool.{cases_lt, cases_eq}
 use Rattle.std.proofs.lemmas.List.Elements.{All-contains}
@@ -108,7 +108,7 @@ module _ (d : Declaration) (lawful : IsDeclaration d) where
 
   of_itself : (c : ℕ) → c < length d.clocks → AreOfOneHost d c c
   of_itself c inside =
-      let none : Owner = record { host = 0; gap = 0 } in
+      let none : Owner = record { host = 0; gap = 0; offset = pos 0 } in
       let at = slice_get-get_or d.owners c none (let long = lawful.clocks.clocks_owned in omega (arith, inside, long)) in
       ((get_or d.owners c none).host, (get_or d.owners c none, at, refl), (get_or d.owners c none, at, refl))
 

@@ -19,6 +19,7 @@ mod StepInstances
 pub mod Held
 pub mod Carried
 pub mod Alike
+pub mod Local
 pub mod NewEnds
 pub mod Gaining
 pub mod Pushed

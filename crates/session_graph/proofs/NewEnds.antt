@@ -1,19 +1,26 @@
 -- Messages that come with events: each has an end among these, and no two have one.
-use Rattle.std.proofs.Common.{◌≡◌, ◌≢◌, ◌⊎◌, ◌<◌, ◌≤◌, ◌+◌, ℕ, zero, suc, List, [], ◌∷◌, ◌++◌, length, set, get_or, Contains, All, AllPairs, inl, inr, refl, sym, ◌∙◌, ap, subst, arith}
+use Rattle.std.proofs.Common.{◌≡◌, ◌≢◌, ◌⊎◌, ◌<◌, ◌≤◌, ◌+◌, ℕ, zero, suc, List, [], ◌∷◌, ◌++◌, length, map, set, get_or, Contains, All, AllPairs, inl, inr, refl, sym, ◌∙◌, ap, subst, arith}
+use Rattle.std.proofs.lemmas.List.{length-map}
 use Rattle.std.proofs.lemmas.List.Elements.{All-contains, Contains-append_cases, Contains-append_left, Contains-append_right}
 use Rattle.std.proofs.lemmas.List.Kept.{AllPairs-cons}
 use Rattle.traces.specs.declared.event.Side.{Side}
 use Rattle.traces.specs.declared.event.Side.TheVariants.{Send, Receive}
-use Rattle.traces.specs.Seen.{EventKey, SeenMark, Keyed, Seen}
+use Rattle.traces.specs.Seen.{EventKey, SeenMark, Keyed, Unkeyed, Seen}
+use Rattle.traces.specs.Windows.{by_group, group_key, group_mark, grouped, key_in, keys_among}
+use Rattle.traces.specs.declared.event_id.EventId.{EventId}
 use Rattle.traces.specs.declared.event_id.Couple.{Couple}
 use Rattle.traces.specs.Traces.{Placed, numbered, events_from, events_of}
-use Rattle.traces.specs.Pairs.{IsOnly, IsPair}
-use Rattle.traces.proofs.Members.{here, there, head_or_tail, none_in, no_pairs, first_of_pairs, rest_of_pairs}
+use Rattle.traces.specs.Pairs.{IsPair}
+use Rattle.traces.proofs.Members.{given_by, giver, here, there, head_or_tail, none_in, no_pairs, first_of_pairs, rest_of_pairs}
+use Rattle.traces.proofs.Grouped.{group_in, image_in, in_group}
+use Rattle.traces.proofs.Ids.{ids_differ}
+use Rattle.traces.proofs.Marks.{event_one}
 use Rattle.traces.proofs.MessageEnds.{pair_from, pairs_of}
 use Rattle.msg_match.specs.Ends.{IsNewMessage, AreNewMessages}
 use Rattle.msg_match.proofs.Growing.{numbered_joined}
 use Rattle.roster.specs.Groups.{group_at, with_more}
 use Rattle.roster.proofs.Counting.{fits}
+use Rattle.session_graph.proofs.Local.{once_grouped, still_grouped}
 
 -- ---- events with more of one label
 long : (label n : ℕ) (seen : List Seen) → length (numbered label n seen) ≡ length seen
@@ -135,32 +142,136 @@ module _ (new events : List Placed) where
   few_ends : (ms : List Couple) → AllHaveEnds ms → AllPairs (λ (a b : Couple). a ≢ b) ms → length ms ≤ length new
   few_ends ms have differ = subst (λ (n : ℕ). n ≤ length new) (ends_long ms have) (fits (ends ms have) new (ends_differ ms have differ) (ends_within ms have))
 
+-- ---- marks by groups
+group_from : (keys : List EventKey) (mark : SeenMark) (key : EventKey) (side : Side) → group_mark keys mark ≡ Keyed key side → (k : EventKey) × (mark ≡ Keyed k side) × (group_key keys k ≡ key)
+group_from keys (Keyed k its) key side is =
+    let same : its ≡ side = cc in
+    (k, ap (λ (s : Side). Keyed k s) same, cc)
+group_from keys (Unkeyed reason) key side is = absurd cc
+
+group_to : (keys : List EventKey) (mark : SeenMark) (k key : EventKey) (side : Side) → mark ≡ Keyed k side → group_key keys k ≡ key → group_mark keys mark ≡ Keyed key side
+group_to keys mark k key side is same = ap (group_mark keys) is ∙ ap (λ (j : EventKey). Keyed j side) same
+
+-- keys of events
+key_held : (events : List Placed) (e : Placed) (k : EventKey) (side : Side) → Contains events e → e.seen.mark ≡ Keyed k side → Contains (keys_among events) k
+key_held events e k side held is = given_by (λ (o : Placed). key_in o.seen.mark) events e k held (subst (λ (m : SeenMark). Contains (key_in m) k) (sym is) (here k []))
+
+holder : (events : List Placed) (k : EventKey) → Contains (keys_among events) k → (e : Placed) × Contains events e × (side : Side) × (e.seen.mark ≡ Keyed k side)
+holder events k held =
+    let (e, among, gives) = giver (λ (o : Placed). key_in o.seen.mark) events k held in
+    let (side, is) = told e.seen.mark gives in
+    (e, among, side, is)
+  where
+    told : (mark : SeenMark) → Contains (key_in mark) k → (side : Side) × (mark ≡ Keyed k side)
+    told (Keyed key side) gives = elim (head_or_tail key k [] gives) [
+      | inl is ↦ (side, ap (λ (j : EventKey). Keyed j side) is)
+      | inr more ↦ absurd (none_in k more)
+    ]
+    told (Unkeyed reason) gives = absurd (none_in k gives)
+
 -- ---- the messages that come
 module _ (before : List (List Seen)) (label : ℕ) (more : List Seen) where
-  abbrev came : List Placed
-  came = numbered (label + 0) (length (group_at before label) + 1) more
+  abbrev new : List Placed
+  new = numbered (label + 0) (length (group_at before label) + 1) more
 
   abbrev after : List (List Seen)
   after = with_more before label more
 
-  old_only : (key : EventKey) (side : Side) (e : Placed) → IsOnly (events_of after) key side e → Contains (events_of before) e → IsOnly (events_of before) key side e
-  old_only key side e only was = record {
-    among = was;
-    marked = only.marked;
-    alone = λ other held marked. only.alone other (still_from 0 label more before other held) marked;
-  }
+  abbrev olds : List EventKey
+  olds = keys_among (events_of before)
 
-  has_end : (m : Couple) → IsNewMessage before after m → HasEndIn came (events_of after) m
+  abbrev news : List EventKey
+  news = keys_among (events_of after)
+
+  -- the events that come, by their groups
+  abbrev came : List Placed
+  came = map (by_group news) new
+
+  grown : (k : EventKey) → Contains olds k → Contains news k
+  grown k held = let (e, among, side, is) = holder (events_of before) k held in key_held (events_of after) e k side (still_from 0 label more before e among) is
+
+  -- an event is told by its group, since its name is
+  one_event : (a b : Placed) → Contains (events_of after) a → Contains (events_of after) b → by_group news a ≡ by_group news b → a ≡ b
+  one_event a b held held' same = event_one (events_of after) a b (ids_differ after) held held' (ap (λ (e : Placed). e.id) same)
+
+  module _ (m : Couple) (p : IsPair (grouped (events_of after)) m) (s r : Placed) (s_old : Contains (events_of before) s) (r_old : Contains (events_of before) r) (s_is : p.sender ≡ by_group news s) (r_is : p.receiver ≡ by_group news r) where
+    s_new : Contains (events_of after) s
+    s_new = still_from 0 label more before s s_old
+
+    r_new : Contains (events_of after) r
+    r_new = still_from 0 label more before r r_old
+
+    s_mark : (k : EventKey) × (s.seen.mark ≡ Keyed k Send) × (group_key news k ≡ p.key)
+    s_mark = group_from news s.seen.mark p.key Send (sym (ap (λ (e : Placed). e.seen.mark) s_is) ∙ p.sends.marked)
+
+    r_mark : (k : EventKey) × (r.seen.mark ≡ Keyed k Receive) × (group_key news k ≡ p.key)
+    r_mark = group_from news r.seen.mark p.key Receive (sym (ap (λ (e : Placed). e.seen.mark) r_is) ∙ p.receives.marked)
+
+    -- an event of the group is one of the two
+    only_send : (o : Placed) (k : EventKey) → Contains (events_of after) o → o.seen.mark ≡ Keyed k Send → group_key news k ≡ p.key → o ≡ s
+    only_send o k held is same = one_event o s held s_new (p.sends.alone (by_group news o) (group_in (events_of after) o held) (group_to news o.seen.mark k p.key Send is same) ∙ s_is)
+
+    only_receive : (o : Placed) (k : EventKey) → Contains (events_of after) o → o.seen.mark ≡ Keyed k Receive → group_key news k ≡ p.key → o ≡ r
+    only_receive o k held is same = one_event o r held r_new (p.receives.alone (by_group news o) (group_in (events_of after) o held) (group_to news o.seen.mark k p.key Receive is same) ∙ r_is)
+
+    old_of_group : (k : EventKey) → Contains news k → group_key news k ≡ p.key → Contains olds k
+    old_of_group k held same = let (o, among, side, is) = holder (events_of after) k held in by_side o side among is
+      where
+        by_side : (o : Placed) (side : Side) → Contains (events_of after) o → o.seen.mark ≡ Keyed k side → Contains olds k
+        by_side o Send among is = key_held (events_of before) s k Send s_old (subst (λ (e : Placed). e.seen.mark ≡ Keyed k Send) (only_send o k among is same) is)
+        by_side o Receive among is = key_held (events_of before) r k Receive r_old (subst (λ (e : Placed). e.seen.mark ≡ Keyed k Receive) (only_receive o k among is same) is)
+
+    -- so the two were a pair before
+    pair_before : IsPair (grouped (events_of before)) m
+    pair_before =
+        let (k, k_is, k_group) = s_mark in
+        let (j, j_is, j_group) = r_mark in
+        let k_old : Contains olds k = key_held (events_of before) s k Send s_old k_is in
+        let j_old : Contains olds j = key_held (events_of before) r j Receive r_old j_is in
+        let one : group_key olds k ≡ group_key olds j = once_grouped olds news grown k j k_old j_old (λ i held same. old_of_group i held (same ∙ k_group)) (k_group ∙ sym j_group) in
+        record {
+          key = group_key olds k;
+          sender = by_group olds s;
+          receiver = by_group olds r;
+          sends = record {
+            among = group_in (events_of before) s s_old;
+            marked = group_to olds s.seen.mark k (group_key olds k) Send k_is refl;
+            alone = λ other held marked.
+                let (o, among, is) = in_group (events_of before) other held in
+                let (i, i_is, i_group) = group_from olds o.seen.mark (group_key olds k) Send (sym (ap (λ (e : Placed). e.seen.mark) is) ∙ marked) in
+                let i_old : Contains olds i = key_held (events_of before) o i Send among i_is in
+                is ∙ ap (by_group olds) (only_send o i (still_from 0 label more before o among) i_is (still_grouped olds news grown i k i_old k_old i_group ∙ k_group));
+          };
+          receives = record {
+            among = group_in (events_of before) r r_old;
+            marked = group_to olds r.seen.mark j (group_key olds k) Receive j_is (sym one);
+            alone = λ other held marked.
+                let (o, among, is) = in_group (events_of before) other held in
+                let (i, i_is, i_group) = group_from olds o.seen.mark (group_key olds k) Receive (sym (ap (λ (e : Placed). e.seen.mark) is) ∙ marked) in
+                let i_old : Contains olds i = key_held (events_of before) o i Receive among i_is in
+                is ∙ ap (by_group olds) (only_receive o i (still_from 0 label more before o among) i_is (still_grouped olds news grown i k i_old k_old i_group ∙ k_group));
+          };
+          is = p.is ∙ ap (λ (e : Placed). couple e.id p.receiver.id) s_is ∙ ap (λ (e : Placed). couple s.id e.id) r_is;
+        }
+      where
+        couple : EventId → EventId → Couple
+        couple send receive = record { send = send; receive = receive }
+
+  has_end : (m : Couple) → IsNewMessage before after m → HasEndIn came (grouped (events_of after)) m
   has_end m (held, fresh) =
       let p = pair_from (events_of after) m held in
-      elim (from_more 0 label more before p.sender p.sends.among) [
-        | inr new ↦ record { pair = p; end = p.sender; side = Send; among = new; marked = p.sends.marked }
-        | inl old ↦ elim (from_more 0 label more before p.receiver p.receives.among) [
-          | inr new ↦ record { pair = p; end = p.receiver; side = Receive; among = new; marked = p.receives.marked }
-          | inl old' ↦ absurd (fresh (pairs_of before m (record { key = p.key; sender = p.sender; receiver = p.receiver; sends = old_only p.key Send p.sender p.sends old; receives = old_only p.key Receive p.receiver p.receives old'; is = p.is })))
+      let (s, s_in, s_is) = in_group (events_of after) p.sender p.sends.among in
+      let (r, r_in, r_is) = in_group (events_of after) p.receiver p.receives.among in
+      elim (from_more 0 label more before s s_in) [
+        | inr own ↦ record { pair = p; end = p.sender; side = Send; among = subst (Contains came) (sym s_is) (image_in (by_group news) new s own); marked = p.sends.marked }
+        | inl old ↦ elim (from_more 0 label more before r r_in) [
+          | inr own ↦ record { pair = p; end = p.receiver; side = Receive; among = subst (Contains came) (sym r_is) (image_in (by_group news) new r own); marked = p.receives.marked }
+          | inl old' ↦ absurd (fresh (pairs_of before m (pair_before m p s r old old' s_is r_is)))
         ]
       ]
 
   -- they are at most as many as the events
   pub few_added : (added : List Couple) → AreNewMessages before after added → length added ≤ length more
-  few_added added are = subst (λ (n : ℕ). length added ≤ n) (long (label + 0) (length (group_at before label) + 1) more) (few_ends came (events_of after) added (λ m has. has_end m (are.only m has)) are.once)
+  few_added added are =
+      subst (λ (n : ℕ). length added ≤ n) (length-map new (by_group news) ∙ long (label + 0) (length (group_at before label) + 1) more)
+      (few_ends came (grouped (events_of after)) added (λ m has. has_end m (are.only m has)) are.once)

@@ -1,14 +1,11 @@
-use Rattle.std.proofs.Common.{List, map, ap, ◌∙◌}
-use Rattle.msg_match.specs.declared.group.Group.{Group}
-use Rattle.msg_match.specs.Groups.{SeenItem, group_of, groups_of}
-use Rattle.msg_match.specs.Held.{seen_groups}
-use Rattle.msg_match.specs.Inside.{items_by}
+use Rattle.std.proofs.Common.{◌≡◌, List, ap, ◌∙◌}
+use Rattle.msg_match.specs.Groups.{SeenItem, groups_of}
+use Rattle.msg_match.specs.Held.{seen_items}
+use Rattle.msg_match.specs.Windowed.{grouped_items}
+use Rattle.msg_match.proofs.Kept.{kept_grouped}
 use Rattle.msg_match.proofs.matcher.Matcher.all_groups.Goals as goal
 
 pub returns : goal.returns
 returns c =
-    let items = items_by c.self.inside.keys c.self.inside.log.items in
-    ap (λ (gs : List Group). seen_groups gs) c.deref.ensures.value
-    ∙ c.self.invariant.grouped
-    ∙ ap (map (group_of items)) c.self.invariant.ordered
-    ∙ ap (λ (held : List SeenItem). groups_of held) c.self.view_is
+    let is : c.self.inside.by_group ≡ grouped_items c.args.self.now = kept_grouped c.self.inside.by_group (seen_items c.self.inside.timed.items) c.self.invariant ∙ ap (λ (l : List SeenItem). grouped_items l) c.self.view_is in
+    c.all_groups.ensures ∙ ap (λ (l : List SeenItem). groups_of l) is

@@ -1,12 +1,11 @@
-use Rattle.std.proofs.Common.{◌≤◌, ℕ, List, length, subst, sym}
-use Rattle.std.proofs.lemmas.List.{length-map}
-use Rattle.problem_model.specs.Limits.{most_items}
-use Rattle.msg_match.specs.declared.group.Group.{Group}
-use Rattle.msg_match.specs.Held.{seen_group, seen_groups}
-use Rattle.msg_match.proofs.Counting.{groups_few}
+use Rattle.std.proofs.Common.{◌≡◌, List, length, ap, ◌∙◌}
+use Rattle.msg_match.specs.Groups.{SeenItem, ambiguous_groups}
+use Rattle.msg_match.specs.Held.{seen_items}
+use Rattle.msg_match.specs.Windowed.{grouped_items}
+use Rattle.msg_match.proofs.Kept.{kept_grouped}
 use Rattle.msg_match.proofs.matcher.Matcher.groups.Goals as goal
 
-pub ambiguous_count-requires : goal.ambiguous_count-requires
-ambiguous_count-requires c =
-    let few = groups_few c.self.inside.keys c.self.inside.log.items (seen_groups c.self.inside.groups.items) c.self.invariant in
-    subst (λ (gs : List Group). length gs ≤ most_items) (sym c.deref.ensures.value) (subst (λ (n : ℕ). n ≤ most_items) (length-map c.self.inside.groups.items seen_group) few)
+pub returns : goal.returns
+returns c =
+    let is : c.self.inside.by_group ≡ grouped_items c.args.self.now = kept_grouped c.self.inside.by_group (seen_items c.self.inside.timed.items) c.self.invariant ∙ ap (λ (l : List SeenItem). grouped_items l) c.self.view_is in
+    c.groups.ensures ∙ ap (λ (l : List SeenItem). length (ambiguous_groups l)) is

@@ -1,20 +1,12 @@
-use Rattle.std.proofs.Common.{◌≤◌, List, subst, sym, ap, ◌∙◌}
-use Rattle.problem_model.specs.Limits.{most_items}
-use Rattle.msg_match.specs.declared.group.Group.{Group}
+use Rattle.std.proofs.Common.{◌≡◌, List, ap, ◌∙◌}
 use Rattle.msg_match.specs.Groups.{SeenItem}
-use Rattle.msg_match.specs.Held.{seen_groups}
 use Rattle.msg_match.specs.Messages.{tallies}
-use Rattle.msg_match.specs.Parts.{sum_of_groups, total_of}
-use Rattle.msg_match.proofs.Counting.{tallies_kept, total_kept}
+use Rattle.msg_match.specs.Held.{seen_items}
+use Rattle.msg_match.specs.Windowed.{grouped_items}
+use Rattle.msg_match.proofs.Kept.{kept_grouped}
 use Rattle.msg_match.proofs.matcher.Matcher.tallies.Goals as goal
-
-pub sum-requires : goal.sum-requires
-sum-requires c =
-    subst (λ (gs : List Group). total_of (seen_groups gs) ≤ most_items) (sym c.deref.ensures.value) (total_kept c.self.inside.keys c.self.inside.log.items (seen_groups c.self.inside.groups.items) c.self.invariant)
 
 pub returns : goal.returns
 returns c =
-    c.sum.ensures
-    ∙ ap (λ (gs : List Group). sum_of_groups (seen_groups gs)) c.deref.ensures.value
-    ∙ tallies_kept c.self.inside.keys c.self.inside.log.items (seen_groups c.self.inside.groups.items) c.self.invariant
-    ∙ ap (λ (items : List SeenItem). tallies items) c.self.view_is
+    let is : c.self.inside.by_group ≡ grouped_items c.args.self.now = kept_grouped c.self.inside.by_group (seen_items c.self.inside.timed.items) c.self.invariant ∙ ap (λ (l : List SeenItem). grouped_items l) c.self.view_is in
+    c.tallies.ensures ∙ ap (λ (l : List SeenItem). tallies l) is
