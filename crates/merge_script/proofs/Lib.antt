@@ -1,3 +1,4 @@
+mod NotMerged
 mod AllPackets
 mod Adding
 mod Merges

@@ -1,5 +1,5 @@
 -- Each event is counted once.
-use Rattle.std.proofs.Common.{◌≡◌, ℕ, ◌+◌, ◌*◌, List, [], ◌∷◌, length, map, Bool, true, false, not, ◌&&◌, cond, inl, inr, refl, sym, ap, ◌∙◌, arith, length-append}
+use Rattle.std.proofs.Common.{◌≡◌, ℕ, ◌+◌, ◌*◌, List, [], ◌∷◌, ◌++◌, length, map, Bool, true, false, not, ◌&&◌, cond, inl, inr, refl, sym, ap, ◌∙◌, arith, length-append}
 use Rattle.std.specs.Prelude.{filter, sum_by}
 use Rattle.std.proofs.lemmas.Bool.{cases_Bool, false≢true}
 use Rattle.std.proofs.lemmas.List.{length-map}
@@ -12,6 +12,7 @@ use Rattle.traces.specs.declared.event.Side.TheVariants.{Send, Receive}
 use Rattle.traces.specs.Seen.{EventKey, Seen, SeenMark, Keyed, Unkeyed, is_same_key, is_same_side}
 use Rattle.traces.specs.declared.event_id.EventId.{EventId}
 use Rattle.traces.specs.Traces.{Missed, Placed, events_of, name_of}
+use Rattle.traces.specs.Windows.{by_group, group_mark, grouped, keys_among}
 use Rattle.msg_match.specs.declared.change.Tallies.{Tallies}
 use Rattle.msg_match.specs.Groups.{SeenGroup, SeenItem, are_ambiguous, each_once, events_with, group_of, groups_of, is_ambiguous, is_matched, is_unmatched, group_size}
 use Rattle.msg_match.specs.Parts.{total_of}
@@ -31,28 +32,31 @@ lacks_any m =
     lacks without.Link m + lacks without.Other m + lacks without.Short m + lacks without.Header m
     + lacks without.Fragment m + lacks without.Length m + lacks without.Side m + lacks without.Local m
 
-one_mark : (id : EventId) (m : SeenMark) → 1 ≡ length (end_by_mark id m) + lacks_any m
-one_mark id (Keyed key side) = refl
-one_mark id (Unkeyed without.Link) = refl
-one_mark id (Unkeyed without.Other) = refl
-one_mark id (Unkeyed without.Short) = refl
-one_mark id (Unkeyed without.Header) = refl
-one_mark id (Unkeyed without.Fragment) = refl
-one_mark id (Unkeyed without.Length) = refl
-one_mark id (Unkeyed without.Side) = refl
-one_mark id (Unkeyed without.Local) = refl
+one_mark : (keys : List EventKey) (id : EventId) (m : SeenMark) → 1 ≡ length (end_by_mark id (group_mark keys m)) + lacks_any m
+one_mark keys id (Keyed key side) = refl
+one_mark keys id (Unkeyed without.Link) = refl
+one_mark keys id (Unkeyed without.Other) = refl
+one_mark keys id (Unkeyed without.Short) = refl
+one_mark keys id (Unkeyed without.Header) = refl
+one_mark keys id (Unkeyed without.Fragment) = refl
+one_mark keys id (Unkeyed without.Length) = refl
+one_mark keys id (Unkeyed without.Side) = refl
+one_mark keys id (Unkeyed without.Local) = refl
 
 counted_cons : (reason : NoKey) (e : Placed) (more : List Placed) → count_without (e ∷ more) reason ≡ lacks reason e.seen.mark + count_without more reason
 counted_cons reason e more = sum_by-cons (λ (x : Placed). lacks reason x.seen.mark) e more
 
-keyed_or_not : (events : List Placed) → length events ≡ length (ends_among events) + all_without (nokeys_of events)
-keyed_or_not [] = refl
-keyed_or_not (e ∷ more) =
-    let first : length (ends_among (e ∷ more)) ≡ length (end_by_mark e.id e.seen.mark) + length (ends_among more) = length-append (end_by_mark e.id e.seen.mark) (ends_among more) in
+-- in whatever groups they are
+keyed_or_not : (keys : List EventKey) (events : List Placed) → length events ≡ length (ends_among (map (by_group keys) events)) + all_without (nokeys_of events)
+keyed_or_not keys [] = refl
+keyed_or_not keys (e ∷ more) =
+    let own : List End = end_by_mark e.id (group_mark keys e.seen.mark) in
+    let rest : List End = ends_among (map (by_group keys) more) in
+    let first : length (own ++ rest) ≡ length own + length rest = length-append own rest in
     omega (
       arith,
       first,
-      one_mark e.id e.seen.mark,
+      one_mark keys e.id e.seen.mark,
       counted_cons without.Link e more,
       counted_cons without.Other e more,
       counted_cons without.Short e more,
@@ -61,7 +65,7 @@ keyed_or_not (e ∷ more) =
       counted_cons without.Length e more,
       counted_cons without.Side e more,
       counted_cons without.Local e more,
-      keyed_or_not more,
+      keyed_or_not keys more,
     )
 
 -- ---- the events of one key
@@ -164,5 +168,5 @@ listed_in d ends =
 pub added_up : (d : Declaration) (seen : List (List Seen)) (missed : List Missed) (consistent : Bool) → AddUp (report_of d seen missed consistent)
 added_up d seen missed consistent =
     let events : List Placed = events_of seen in
-    let ends : List End = ends_among events in
-    omega (arith, keyed_or_not events, told ends, messages_many events, listed_in d ends)
+    let ends : List End = ends_among (grouped events) in
+    omega (arith, keyed_or_not (keys_among events) events, told ends, messages_many (grouped events), listed_in d ends)

@@ -8,18 +8,23 @@ use Rattle.traces.specs.declared.event.Side.TheVariants.{Send, Receive}
 use Rattle.traces.specs.Seen.{EventKey, Seen, SeenMark, Keyed, Unkeyed}
 use Rattle.traces.specs.declared.event_id.EventId.{EventId}
 use Rattle.traces.specs.Traces.{Placed, events_of}
+use Rattle.traces.specs.Windows.{by_group, grouped, keys_among}
 use Rattle.traces.proofs.Ids.{ids_within}
 use Rattle.msg_match.specs.Groups.{SeenItem}
 use Rattle.msg_match.specs.Messages.{tallies}
+use Rattle.msg_match.specs.Windowed.{grouped_items}
 use Rattle.msg_match.specs.Ends.{AreEndsBy, End, end_at, end_by_mark, ends_among, name_as_came}
 use Rattle.msg_match.specs.Ambiguous.{ambiguous_ends, ambiguous_keys, end_group, is_end, tallies_of}
 use Rattle.msg_match.proofs.ByNumber.{tallies_by, tallies_of_moved}
+use Rattle.msg_match.proofs.GroupedEnds.{ends_grouped}
 use Rattle.report.specs.Inside.{AreLabelled, HasLabels}
 
 -- ---- counts
 -- those of the events by number, in whatever order they came
-pub counts_told : (ids : List EventId) (items : List SeenItem) (seen : List (List Seen)) → AreEndsBy ids items seen → tallies items ≡ tallies_of (ends_among (events_of seen))
-counts_told ids items seen are = sym (tallies_by (name_as_came ids) items) ∙ sym (tallies_of_moved (ends_among (events_of seen)) (map (end_at ids) items) are.ends)
+pub counts_told : (ids : List EventId) (items : List SeenItem) (seen : List (List Seen)) → AreEndsBy ids items seen → tallies (grouped_items items) ≡ tallies_of (ends_among (grouped (events_of seen)))
+counts_told ids items seen are =
+    let groups : List SeenItem = grouped_items items in
+    sym (tallies_by (name_as_came ids) groups) ∙ sym (tallies_of_moved (ends_among (grouped (events_of seen))) (map (end_at ids) groups) (ends_grouped ids items seen are))
 
 -- ---- labels
 IsLabelled : Declaration → End → Type 0
@@ -41,8 +46,11 @@ unfolding IsLabelled
 side_labelled d ends key side below = All-map (λ (id : EventId). id.label < length d.labels) (λ (e : End). e.id) (filter (is_end key side) ends) (All-filter (is_end key side) (IsLabelled d) ends below)
 
 -- each event of an ambiguous key has a label of the declaration
-pub keys_labelled : (d : Declaration) (seen : List (List Seen)) → length seen ≡ length d.labels → All (HasLabels d) (ambiguous_ends (ends_among (events_of seen)))
+pub keys_labelled : (d : Declaration) (seen : List (List Seen)) → length seen ≡ length d.labels → All (HasLabels d) (ambiguous_ends (ends_among (grouped (events_of seen))))
 keys_labelled d seen same =
-    let ends : List End = ends_among (events_of seen) in
-    let below : All (IsLabelled d) ends = ends_labelled d (events_of seen) (λ k x within. subst (λ (n : ℕ). (get_or (events_of seen) k x).id.label < n) same (ids_within seen k x within).0) in
+    let events : List Placed = events_of seen in
+    let ends : List End = ends_among (grouped events) in
+    let below : All (IsLabelled d) ends =
+    ends_labelled d (grouped events) (All-map (λ (e : Placed). e.id.label < length d.labels) (by_group (keys_among events)) events
+    (λ k x within. subst (λ (n : ℕ). (get_or events k x).id.label < n) same (ids_within seen k x within).0)) in
     All-map (HasLabels d) (end_group ends) (ambiguous_keys ends) (λ k x within. (side_labelled d ends _ Send below, side_labelled d ends _ Receive below))

@@ -1,4 +1,4 @@
--- The messages among events are as many as those among their ends.
+-- The couples among events are as many as the messages among their ends.
 use Rattle.std.proofs.Common.{◌≡◌, ℕ, ◌+◌, List, [], ◌∷◌, ◌++◌, length, map, Bool, ◌&&◌, cond, inl, inr, refl, sym, ap, ◌∙◌, arith, length-append}
 use Rattle.std.proofs.lemmas.List.{length-map}
 use Rattle.std.specs.Prelude.{filter, is_some}
@@ -10,7 +10,7 @@ use Rattle.traces.specs.Seen.{EventKey, SeenMark, Keyed, Unkeyed, is_mark}
 use Rattle.traces.specs.declared.event_id.EventId.{EventId}
 use Rattle.traces.specs.Traces.{Placed}
 use Rattle.traces.specs.Messages as traces
-use Rattle.traces.specs.Messages.{messages_of, sent_by, with_mark}
+use Rattle.traces.specs.Messages.{couples_of, sent_by, with_mark}
 use Rattle.msg_match.specs.Groups as groups
 use Rattle.msg_match.specs.Groups.{SeenItem, events_with, has_mark}
 use Rattle.msg_match.specs.Messages.{sends_message}
@@ -80,5 +80,5 @@ sent_many all (e ∷ more) =
     ∙ sym (sent_first all e.id e.seen.mark (ends_among more))
 
 -- they are as many
-pub messages_many : (events : List Placed) → (tallies_of (ends_among events)).messages ≡ length (messages_of events)
+pub messages_many : (events : List Placed) → (tallies_of (ends_among events)).messages ≡ length (couples_of events)
 messages_many events = sym (sent_many events events)

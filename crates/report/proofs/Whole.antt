@@ -5,6 +5,7 @@ use Rattle.problem_model.specs.Limits.{most_events}
 use Rattle.decl.specs.Declaration.{Declaration}
 use Rattle.traces.specs.Seen.{Seen}
 use Rattle.traces.specs.Traces.{Missed, events_of, event_count}
+use Rattle.traces.specs.Windows.{grouped}
 use Rattle.traces.specs.Messages.{messages_of}
 use Rattle.traces.proofs.Ids.{length_events}
 use Rattle.msg_match.specs.Ends.{ends_among}
@@ -21,8 +22,8 @@ made events messages unmatched consistent dropped nokeys passed groups =
 
 -- is that of all events
 pub made_is : (d : Declaration) (seen : List (List Seen)) (labels : List Missed) (consistent : Bool) (n m u : ℕ) (dropped : List ReportedDrops) (nokeys : NoKeys) (passed : PassedSums) (groups : List ReportedKey)
-    → n ≡ length (events_of seen) → m ≡ length (messages_of (events_of seen)) → u ≡ (tallies_of (ends_among (events_of seen))).unmatched
-    → dropped ≡ drops_of d.labels labels → nokeys ≡ nokeys_of (events_of seen) → passed ≡ passed_sums labels → groups ≡ map (named_key d) (ambiguous_ends (ends_among (events_of seen)))
+    → n ≡ length (events_of seen) → m ≡ length (messages_of (events_of seen)) → u ≡ (tallies_of (ends_among (grouped (events_of seen)))).unmatched
+    → dropped ≡ drops_of d.labels labels → nokeys ≡ nokeys_of (events_of seen) → passed ≡ passed_sums labels → groups ≡ map (named_key d) (ambiguous_ends (ends_among (grouped (events_of seen))))
     → made n m u consistent dropped nokeys passed groups ≡ report_of d seen labels consistent
 made_is d seen labels consistent n m u dropped nokeys passed groups en em eu ed ek ep eg = rw (en, em, eu, ed, ek, ep, eg) refl
 

@@ -7,6 +7,7 @@ use Rattle.traces.specs.declared.event.NoKey.{NoKey}
 use Rattle.traces.specs.declared.event.NoKey.TheVariants as without
 use Rattle.traces.specs.Seen.{SeenMark, Keyed, Unkeyed, Seen}
 use Rattle.traces.specs.Traces.{Missed, Placed, events_of, name_of}
+use Rattle.traces.specs.Windows.{grouped}
 use Rattle.traces.specs.Messages.{messages_of}
 use Rattle.msg_match.specs.Ends.{ends_among}
 use Rattle.msg_match.specs.Ambiguous.{EndGroup, ambiguous_ends, tallies_of}
@@ -18,7 +19,7 @@ use Rattle.report.specs.KeyTexts.{key_text}
 -- ---- events with keys
 -- a key by its text, and the names of its events
 abbrev pub named_key : Declaration → EndGroup → ReportedKey
-named_key d g = record { key = key_text g.key; sends = map (name_of d) g.sends; receives = map (name_of d) g.receives }
+named_key d g = record { key = key_text g.key.message; sends = map (name_of d) g.sends; receives = map (name_of d) g.receives }
 
 -- ---- events without keys
 -- whether it is the same reason
@@ -81,19 +82,21 @@ drops_of (label ∷ labels) (m ∷ missed) = drops_under label m.dropped ++ drop
 
 -- ---- the report
 -- what is reported of the events of all labels and of the packets under each that have none, by whether the problem has an
--- execution; the ambiguous keys stand in the order of their first events, and the events of each in theirs
+-- execution; the ambiguous keys, one for each group of events where a window is declared, stand in the order of their first
+-- events, and the events of each in theirs
 abbrev pub report_of : Declaration → List (List Seen) → List Missed → Bool → Reported
 report_of d seen missed consistent =
     let events = events_of seen in
+    let ends = ends_among (grouped events) in
     record {
       events = length events;
       messages = length (messages_of events);
-      unmatched = (tallies_of (ends_among events)).unmatched;
+      unmatched = (tallies_of ends).unmatched;
       consistent = consistent;
       dropped = drops_of d.labels missed;
       nokeys = nokeys_of events;
       passed = passed_sums missed;
-      groups = map (named_key d) (ambiguous_ends (ends_among events));
+      groups = map (named_key d) (ambiguous_ends ends);
     }
 
 -- its line

@@ -8,6 +8,7 @@ ghost use Rattle.msg_match.specs.Parts.{keys_in};
 ghost use Rattle.traces.specs.declared.event_id.EventId as names;
 ghost use Rattle.traces.specs.Pairs.{ComesBefore};
 ghost use Rattle.traces.specs.Traces.{events_of};
+ghost use Rattle.traces.specs.Windows.{grouped};
 ghost use Rattle.msg_match.specs.Ends.{AreEndsBy, End, ends_among, name_as_came};
 ghost use Rattle.msg_match.specs.Ambiguous.{EndGroup, ambiguous_ends};
 ghost use Rattle.msg_match.specs.EndsInside.{AreNamesInOrder, AreRising, HasEventsOf, IsWithin, earlier, led_group, led_groups};
@@ -21,7 +22,7 @@ use traces::{EventId, Key};
 /// An ambiguous key, with its events: it has sends and receives, and two of the ones or the others at least.
 #[derive(Drop)]
 pub(crate) struct Ambiguous<'a> {
-    /// What the events are known by.
+    /// What the events are known by, and when their group begins where a window is declared.
     pub(crate) key: &'a Key,
     /// The events that send, by label and then by number.
     pub(crate) sends: Vec<EventId>,
@@ -141,7 +142,7 @@ pub(crate) fn keys_in_order<'a>(
     matcher: &'a Matcher,
 ) -> Result<Vec<Ambiguous<'a>>, AllocError>
     requires { All (λ (x : SeenItem). x.event < length (ids_in roster.now)) matcher.now }
-    ensures { (seen : List (List Seen)) → AreEndsBy (ids_in roster.now) matcher.now seen → IfOk result (λ keys. map seen_ambiguous keys.items ≡ ambiguous_ends (ends_among (events_of seen))) }
+    ensures { (seen : List (List Seen)) → AreEndsBy (ids_in roster.now) matcher.now seen → IfOk result (λ keys. map seen_ambiguous keys.items ≡ ambiguous_ends (ends_among (grouped (events_of seen)))) }
 {
     let mut keys = ambiguous_keys(alloc, roster, matcher.all_groups())?;
     sort_keys(&mut keys);

@@ -35,7 +35,7 @@ fn named(alloc: Global, decl: &Decl, key: &Ambiguous<'_>) -> Result<NamedGroup, 
     ensures ascii { IfOk result HasAsciiKey }
 {
     Ok(NamedGroup {
-        key: key_text(alloc, key.key)?,
+        key: key_text(alloc, &key.key.message)?,
         sends: names_of(alloc, decl, &key.sends)?,
         receives: names_of(alloc, decl, &key.receives)?,
     })

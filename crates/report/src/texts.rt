@@ -5,7 +5,7 @@ ghost use Rattle.std.specs.Str.{IsAscii};
 ghost use Rattle.atto.specs.Decimal.{decimal_of};
 ghost use Rattle.line_format.specs.Words.{words};
 ghost use Rattle.headers.specs.declared.key.Transport.TheVariants.{Tcp, Udp};
-ghost use Rattle.traces.specs.Seen.{key_of, Packet, Word};
+ghost use Rattle.traces.specs.Seen.{message_of, Packet, Word};
 ghost use Rattle.report.specs.KeyTexts.{datagram_words, endpoint, key_text, network_words, option_words, packet_words, payload_word, segment_words, wide_endpoint};
 
 use crate::fragments::fragment_text;
@@ -14,7 +14,7 @@ use event_log::WordKey;
 use headers::{Network, PacketKey, Segment, Transport, UserDatagram};
 use ports::push_word;
 use std::alloc::{AllocError, Global};
-use traces::Key;
+use traces::MessageKey;
 
 // Appends an address of IPv4 with its port behind a space.
 fn push_end(text: &mut Vec<u8>, address: u32, port: u16) -> Result<(), AllocError>
@@ -165,15 +165,15 @@ fn word_text(alloc: Global, word: &WordKey) -> Result<Vec<u8>, AllocError>
     Ok(text)
 }
 
-/// The text of a key, in ASCII; an error where memory runs out. It is `log` and the word of a message in event logs, or for
+/// The text of what a message is known by, in ASCII; an error where memory runs out. It is `log` and the word of a message in event logs, or for
 /// a packet the protocol, both addresses with their ports, and the other fields of the key by their names; for a fragment
 /// `fragment`, both addresses, and these fields.
-pub fn key_text(alloc: Global, key: &Key) -> Result<Vec<u8>, AllocError>
-    ensures text { IfOk result (λ text. text.items ≡ key_text (key_of key.now)) }
+pub fn key_text(alloc: Global, key: &MessageKey) -> Result<Vec<u8>, AllocError>
+    ensures text { IfOk result (λ text. text.items ≡ key_text (message_of key.now)) }
     ensures ascii { IfOk result (λ text. IsAscii text.items) }
 {
     match key {
-        Key::Packet(packet) => packet_text(alloc, packet),
-        Key::Word(word) => word_text(alloc, word),
+        MessageKey::Packet(packet) => packet_text(alloc, packet),
+        MessageKey::Word(word) => word_text(alloc, word),
     }
 }

@@ -14,7 +14,7 @@ ghost use Rattle.session.specs.TakingInside.{CompletesFront, HadRoom, KeepsFound
 use crate::Session;
 use crate::accepted::{aside_in, extend, has_place, room_left};
 use crate::addition::outcome_of;
-use crate::labels::host_of;
+use crate::labels::label_at;
 use crate::limits::MOST_PIECE;
 use crate::pieces::{Origin, Piece, read_piece};
 use atto::Steps;
@@ -127,8 +127,12 @@ impl Session {
             return Ok(Outcome::Refused(Refusal::TooManyBytes));
         }
         let decl = decl_of(&self.answers);
-        let host = host_of(&decl.labels, k);
-        let origin = Origin { decl, host };
+        let label = label_at(&decl.labels, k);
+        let origin = Origin {
+            decl,
+            host: label.host,
+            clock: label.clock,
+        };
         let read = read_piece(
             self.alloc,
             &origin,

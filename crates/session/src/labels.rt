@@ -1,12 +1,12 @@
 // The labels of a declaration.
-ghost use Rattle.std.specs.Prelude.{◌≡◌, ◌<◌, length, map, slice_get, Some};
+ghost use Rattle.std.specs.Prelude.{◌≡◌, ◌<◌, length, slice_get, Some};
 
 use decl::Label;
 
-/// The host of the label at a place.
-pub(crate) fn host_of(labels: &[Label], k: usize) -> u32
+/// The label at a place.
+pub(crate) fn label_at(labels: &[Label], k: usize) -> &Label
     requires { k < length labels.now }
-    ensures { slice_get (map (λ label. label.host) labels.now) k ≡ Some result }
+    ensures { slice_get labels.now k ≡ Some result.now }
 {
-    labels[k].host
+    &labels[k]
 }

@@ -1,7 +1,7 @@
 // What a piece says, by the kind of its label.
-ghost use Rattle.std.specs.Prelude.{◌≡◌, ◌≤◌, ◌+◌, ℕ, [], length, IfOk};
+ghost use Rattle.std.specs.Prelude.{◌≡◌, ◌≤◌, ◌+◌, [], length, IfOk};
 ghost use Rattle.captures.specs.Feeding.{taken, seen_packets};
-ghost use Rattle.decl.specs.Declaration.{Declaration, declaration_of};
+ghost use Rattle.decl.specs.Declaration.{IsDeclaration, declaration_of};
 ghost use Rattle.traces.specs.declared.accepted.Stream.TheVariants as streams;
 ghost use Rattle.replies.specs.Reply.{most_of_label, most_piece};
 ghost use Rattle.session.specs.Pieces.{IsRead, HasPlaceFor, HasRoomFor};
@@ -14,13 +14,15 @@ use replies::{Refusal, capture_refusal, log_refusal};
 use std::alloc::{AllocError, Global};
 use traces::{Event, Stream, packet_events, row_events};
 
-/// Where packets were captured: a host, and the declaration that it is in.
+/// Where events come from: a host and one of its clocks, and the declaration that they are in.
 #[derive(Clone, Copy)]
 pub(crate) struct Origin<'a> {
     /// The declaration.
     pub(crate) decl: &'a Decl,
-    /// The number of the host.
+    /// The place of the host.
     pub(crate) host: u32,
+    /// The place of the clock that stamps are taken from.
+    pub(crate) clock: u32,
 }
 
 /// What a piece says.
@@ -39,7 +41,7 @@ pub enum Piece {
     Refused(Refusal),
 }
 
-/// Reads a piece for a label of the host of this origin, under which this is kept, where there is room for so many events more.
+/// Reads a piece for a label of this origin, under which this is kept, where there is room for so many events more.
 /// It is read to its end, and no more rows or packets are held than there is room for. `packets`, which has none yet, gets those
 /// that a capture's piece completes.
 pub(crate) fn read_piece(
@@ -50,24 +52,25 @@ pub(crate) fn read_piece(
     room: u64,
     packets: &mut Vec<Packet>,
 ) -> Result<Piece, AllocError>
-    requires payload { origin.now.decl.now.payload_bytes ≤ 64 }
+    requires declared { IsDeclaration (declaration_of origin.now.decl.now) }
     requires short { length piece.now ≤ most_piece }
     requires place { HasPlaceFor stream.now (length piece.now) }
     requires none { packets.old.items ≡ [] }
-    ensures read { IfOk result (λ read. IsRead (declaration_of origin.now.decl.now) origin.now.host room stream.now piece.now read) }
+    ensures read { IfOk result (λ read. IsRead (declaration_of origin.now.decl.now) origin.now.host origin.now.clock room stream.now piece.now read) }
     ensures room { IfOk result (λ read. HasRoomFor room read) }
     ensures packets { IfOk result (λ read. HasPackets stream.now piece.now (seen_packets packets.new.items) read) }
 {
     match stream {
-        Stream::Log => read_log(alloc, piece, room),
+        Stream::Log => read_log(alloc, origin, piece, room),
         Stream::Capture(stream) => read_capture(alloc, origin, stream, piece, room, packets),
     }
 }
 
 // Reads a piece of a log.
-fn read_log(alloc: Global, piece: &[u8], room: u64) -> Result<Piece, AllocError>
-    requires { length piece.now ≤ most_piece }
-    ensures read { IfOk result (λ read. (d : Declaration) (host : ℕ) → IsRead d host room streams.Log piece.now read) }
+fn read_log(alloc: Global, origin: &Origin, piece: &[u8], room: u64) -> Result<Piece, AllocError>
+    requires declared { IsDeclaration (declaration_of origin.now.decl.now) }
+    requires short { length piece.now ≤ most_piece }
+    ensures read { IfOk result (λ read. IsRead (declaration_of origin.now.decl.now) origin.now.host origin.now.clock room streams.Log piece.now read) }
     ensures room { IfOk result (λ read. HasRoomFor room read) }
 {
     match read_first_rows(alloc, piece, room) {
@@ -75,7 +78,7 @@ fn read_log(alloc: Global, piece: &[u8], room: u64) -> Result<Piece, AllocError>
             if rows.count > room {
                 return Ok(Piece::TooManyEvents);
             }
-            let events = row_events(alloc, rows.kept)?;
+            let events = row_events(alloc, origin.decl, origin.clock, rows.kept)?;
             let stream = Stream::Log;
             Ok(Piece::Read { events, stream })
         }
@@ -95,9 +98,9 @@ fn read_capture(
     room: u64,
     packets: &mut Vec<Packet>,
 ) -> Result<Piece, AllocError>
-    requires payload { origin.now.decl.now.payload_bytes ≤ 64 }
+    requires declared { IsDeclaration (declaration_of origin.now.decl.now) }
     requires place { taken stream.now + length piece.now ≤ most_of_label }
-    ensures read { IfOk result (λ read. IsRead (declaration_of origin.now.decl.now) origin.now.host room (streams.Capture stream.now) piece.now read) }
+    ensures read { IfOk result (λ read. IsRead (declaration_of origin.now.decl.now) origin.now.host origin.now.clock room (streams.Capture stream.now) piece.now read) }
     ensures room { IfOk result (λ read. HasRoomFor room read) }
     ensures packets { IfOk result (λ read. HasPackets (streams.Capture stream.now) piece.now (seen_packets packets.new.items) read) }
 {
@@ -107,7 +110,13 @@ fn read_capture(
             if completed.more {
                 return Ok(Piece::TooManyEvents);
             }
-            let events = packet_events(alloc, origin.decl, origin.host, &completed.kept)?;
+            let events = packet_events(
+                alloc,
+                origin.decl,
+                origin.host,
+                origin.clock,
+                &completed.kept,
+            )?;
             *packets = completed.kept;
             let stream = Stream::Capture(next);
             Ok(Piece::Read { events, stream })

@@ -3,6 +3,7 @@ use Rattle.session.specs.Script.{Devices}
 use Rattle.merge_script.specs.Notes.{AreNoted, IsToldNote, notes_held}
 use Rattle.merge_script.specs.Turns.{reads}
 use Rattle.merge_script.proofs.Noted.{noted_all, on_ok}
+use Rattle.merge_script.proofs.NotMerged.{merges_not}
 use Rattle.merge_script.proofs.arrangement.merge_lines.Goals as goal
 
 pub returns-clause-noted : goal.returns-clause-noted
@@ -15,3 +16,10 @@ returns-clause-noted g c =
     let after = g.N.Sink.told c.merge_noted.new.notes in
     on_ok c.merge_noted.result (IsToldNote (notes_held h.declaration.labels h.under) before after) (AreNoted d old new before after)
     (noted_all d old new h (all_timed c.gather.new.kept.packets.items) before after c.in_ok-gather.ensures.ok) c.merge_noted.ensures.noted
+
+pub returns-clause-err : goal.returns-clause-err
+returns-clause-err g c =
+    let d = c.args.session.now.declaration in
+    let old : Devices = reads (g.F.Files.told c.args.files.now) (g.I.Source.told c.args.input.now) in
+    let new : Devices = reads (g.F.Files.told c.gather.new.files) (g.I.Source.told c.gather.new.input) in
+    merges_not d old new c.gather.new.session (all_timed c.gather.new.kept.packets.items) c.in_ok-gather.ensures.ok c.merge_noted.result c.merge_noted.ensures.err

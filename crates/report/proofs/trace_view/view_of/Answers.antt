@@ -4,6 +4,7 @@ use Rattle.decl.specs.Declaration.{declaration_of}
 use Rattle.traces.specs.Seen.{seen_events}
 use Rattle.traces.specs.declared.accepted.Accepted.{Accepted}
 use Rattle.traces.specs.Traces.{events_of}
+use Rattle.traces.specs.Windows.{grouped}
 use Rattle.traces.specs.Held.{missed_in, seen_in}
 use Rattle.msg_match.specs.declared.change.Tallies.{Tallies}
 use Rattle.report.specs.Report.{reported_drops, reported_key}
@@ -23,7 +24,7 @@ pub named_keys-requires-clause-labels : goal.named_keys-requires-clause-labels
 named_keys-requires-clause-labels c =
     let d = declaration_of c.args.decl.now in
     let seen = seen_in c.args.accepted.now in
-    let keys : map seen_ambiguous c.deref.result.now ≡ ambiguous_ends (ends_among (events_of seen)) = ap (map seen_ambiguous) c.deref.ensures.value ∙ c.in_ok-keys.ensures seen c.requires.ends in
+    let keys : map seen_ambiguous c.deref.result.now ≡ ambiguous_ends (ends_among (grouped (events_of seen))) = ap (map seen_ambiguous) c.deref.ensures.value ∙ c.in_ok-keys.ensures seen c.requires.ends in
     subst (λ (l : List EndGroup). All (HasLabels d) l) (sym keys) (keys_labelled d seen (length-map c.args.accepted.now (λ (a : Accepted). seen_events a.events.items) ∙ c.requires.labels))
 
 pub passed_sums-requires : goal.passed_sums-requires
@@ -35,11 +36,11 @@ pub returns-clause-view : goal.returns-clause-view
 returns-clause-view c =
     let d = declaration_of c.args.decl.now in
     let seen = seen_in c.args.accepted.now in
-    let keys : map seen_ambiguous c.deref.result.now ≡ ambiguous_ends (ends_among (events_of seen)) = ap (map seen_ambiguous) c.deref.ensures.value ∙ c.in_ok-keys.ensures seen c.requires.ends in
-    let told : c.tallies-tallies.result ≡ tallies_of (ends_among (events_of seen)) = c.tallies-tallies.ensures ∙ counts_told (ids_in c.args.roster.now) c.args.matcher.now seen c.requires.ends in
+    let keys : map seen_ambiguous c.deref.result.now ≡ ambiguous_ends (ends_among (grouped (events_of seen))) = ap (map seen_ambiguous) c.deref.ensures.value ∙ c.in_ok-keys.ensures seen c.requires.ends in
+    let told : c.tallies-tallies.result ≡ tallies_of (ends_among (grouped (events_of seen))) = c.tallies-tallies.ensures ∙ counts_told (ids_in c.args.roster.now) c.args.matcher.now seen c.requires.ends in
     made_is d seen (missed_in c.args.accepted.now) c.args.consistent c.event_count.result c.tallies-tallies.result.messages c.tallies-tallies.result.unmatched (map reported_drops c.in_ok-dropped.dropped.items) c.nokeys_of.result c.passed_sums.result (map reported_key c.in_ok-groups.groups.items)
     (counted seen c.event_count.result c.event_count.ensures c.requires.few)
-    (ap (λ (t : Tallies). t.messages) told ∙ messages_many (events_of seen))
+    (ap (λ (t : Tallies). t.messages) told ∙ messages_many (grouped (events_of seen)))
     (ap (λ (t : Tallies). t.unmatched) told)
     c.in_ok-dropped.ensures
     c.nokeys_of.ensures
