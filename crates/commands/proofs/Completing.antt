@@ -6,6 +6,8 @@ use Rattle.ports.specs.Files.{Content, FilesTold, HasBytes, IsAbsent, Keeps}
 use Rattle.ports.specs.Lines.{most_taken, whole_lines}
 use Rattle.problem_model.specs.Problem.{ProblemLists, IsProblem}
 use Rattle.problem.specs.Line.{HasEvent, IsUnknown}
+use Rattle.cert_check.specs.declared.what.What.{What}
+use Rattle.widen.specs.Named.{SaysWhat}
 use Rattle.decl.specs.Declaration.{Declaration}
 use Rattle.decl.specs.Walk.{IsDocumentOf, IsFirstFault}
 use Rattle.decl.specs.declared.errors.DeclError.TheVariants as faults
@@ -29,6 +31,7 @@ use Rattle.problem_commands.specs.Texts.{SpellsProblem, IsMissed, IsBadProblem, 
 use Rattle.commands.specs.Trials.{IsNumber, Tried, TriedBy}
 use Rattle.problem_commands.specs.Verify.{Verified}
 use Rattle.problem_commands.specs.Widening.{RefusesWidening, WideningFound, WideningJudged}
+use Rattle.problem_commands.specs.WhatWords.{SaysNothing}
 use Rattle.problem_commands.specs.Blame.{Blamed}
 use Rattle.problem_commands.specs.declared.refusal.Refusal.{Refusal}
 use Rattle.problem_commands.specs.declared.status.Status.{Status}
@@ -124,7 +127,7 @@ module _ (law : HaveOneAnswer) (old new : FilesTold) (none : Rose old.faults new
   obey_goes problem exec lawful statuses.WriteFault line goes = absurd goes
   obey_goes problem exec lawful statuses.Memory line goes = absurd goes
   obey_goes problem exec lawful statuses.ScriptLimit line goes = absurd goes
-  obey_goes problem exec lawful statuses.UnknownEvent line goes = absurd goes
+  obey_goes problem exec lawful statuses.UnknownName line goes = absurd goes
   obey_goes problem exec lawful statuses.NoMerge line goes = absurd goes
 
   solve_goes : (problem : List ℕ) → HoldsProblem old.content problem (λ p. Unit {0}) → (status : Status) (text : List ℕ) → Solved problem old new status text → IsAnswered status
@@ -139,7 +142,7 @@ module _ (law : HaveOneAnswer) (old new : FilesTold) (none : Rose old.faults new
   solve_goes problem lawful statuses.WriteFault text goes = absurd goes
   solve_goes problem lawful statuses.Memory text goes = absurd goes
   solve_goes problem lawful statuses.ScriptLimit text goes = absurd goes
-  solve_goes problem lawful statuses.UnknownEvent text goes = absurd goes
+  solve_goes problem lawful statuses.UnknownName text goes = absurd goes
   solve_goes problem lawful statuses.NoMerge text goes = absurd goes
 
   -- both events are known
@@ -160,7 +163,7 @@ module _ (law : HaveOneAnswer) (old new : FilesTold) (none : Rose old.faults new
   ends_goes problem first second lawful statuses.WriteFault text goes = absurd goes
   ends_goes problem first second lawful statuses.Memory text goes = absurd goes
   ends_goes problem first second lawful statuses.ScriptLimit text goes = absurd goes
-  ends_goes problem first second (p, held, (from, to)) statuses.UnknownEvent text (q, has, unknown, is) = absurd (
+  ends_goes problem first second (p, held, (from, to)) statuses.UnknownName text (q, has, unknown, is) = absurd (
       no_bytes (SpellsProblem p) (SpellsProblem q) old.content problem (λ bytes spelled other. known p first second text q from to (problems_one law p q bytes spelled other) unknown) held has)
   ends_goes problem first second lawful statuses.NoMerge text goes = absurd goes
 
@@ -177,23 +180,28 @@ module _ (law : HaveOneAnswer) (old new : FilesTold) (none : Rose old.faults new
   verify_goes problem cert lawful statuses.WriteFault line goes = absurd goes
   verify_goes problem cert lawful statuses.Memory line goes = absurd goes
   verify_goes problem cert lawful statuses.ScriptLimit line goes = absurd goes
-  verify_goes problem cert lawful statuses.UnknownEvent line goes = absurd goes
+  verify_goes problem cert lawful statuses.UnknownName line goes = absurd goes
   verify_goes problem cert lawful statuses.NoMerge line goes = absurd goes
 
-  widen_goes : (problem : List ℕ) → HoldsProblem old.content problem (λ p. Unit {0}) → (status : Status) (text : List ℕ) → WideningFound problem old new status text → IsAnswered status
-  widen_goes problem lawful statuses.Done text goes = inl refl
-  widen_goes problem lawful statuses.No text goes = absurd goes
-  widen_goes problem lawful statuses.Usage text goes = absurd goes
-  widen_goes problem lawful statuses.BadDecl text goes = absurd goes
-  widen_goes problem (p, held, also) statuses.BadProblem text goes = absurd (not_bad law p problem text old.content held goes)
-  widen_goes problem lawful statuses.BadExec text goes = absurd goes
-  widen_goes problem lawful statuses.BadCert text goes = absurd goes
-  widen_goes problem (p, held, also) statuses.ReadFault text goes = absurd (not_missed (SpellsProblem p) problem old new held none goes.0)
-  widen_goes problem lawful statuses.WriteFault text goes = absurd goes
-  widen_goes problem lawful statuses.Memory text goes = absurd goes
-  widen_goes problem lawful statuses.ScriptLimit text goes = absurd goes
-  widen_goes problem lawful statuses.UnknownEvent text goes = absurd goes
-  widen_goes problem lawful statuses.NoMerge text goes = absurd goes
+  -- the words name something of the problem
+  named : (p : ProblemLists) (ws : List (List ℕ)) (q : ProblemLists) → ((what : What) × SaysWhat p ws what) → p ≡ q → SaysNothing q ws → ⊥
+  named p ws q says same none = none says.0 (subst (λ (r : ProblemLists). SaysWhat r ws says.0) same says.1)
+
+  widen_goes : (problem : List ℕ) (ws : List (List ℕ)) → HoldsProblem old.content problem (λ p. (what : What) × SaysWhat p ws what) → (status : Status) (text : List ℕ) → WideningFound problem ws old new status text → IsAnswered status
+  widen_goes problem ws lawful statuses.Done text goes = inl refl
+  widen_goes problem ws lawful statuses.No text goes = absurd goes
+  widen_goes problem ws lawful statuses.Usage text goes = absurd goes
+  widen_goes problem ws lawful statuses.BadDecl text goes = absurd goes
+  widen_goes problem ws (p, held, also) statuses.BadProblem text goes = absurd (not_bad law p problem text old.content held goes)
+  widen_goes problem ws lawful statuses.BadExec text goes = absurd goes
+  widen_goes problem ws lawful statuses.BadCert text goes = absurd goes
+  widen_goes problem ws (p, held, also) statuses.ReadFault text goes = absurd (not_missed (SpellsProblem p) problem old new held none goes.0)
+  widen_goes problem ws lawful statuses.WriteFault text goes = absurd goes
+  widen_goes problem ws lawful statuses.Memory text goes = absurd goes
+  widen_goes problem ws lawful statuses.ScriptLimit text goes = absurd goes
+  widen_goes problem ws (p, held, says) statuses.UnknownName text (q, has, nothing, is) = absurd (
+      no_bytes (SpellsProblem p) (SpellsProblem q) old.content problem (λ bytes spelled other. named p ws q says (problems_one law p q bytes spelled other) nothing) held has)
+  widen_goes problem ws lawful statuses.NoMerge text goes = absurd goes
 
   blame_goes : (problem : List ℕ) → HoldsProblem old.content problem (λ p. Unit {0}) → (status : Status) (text : List ℕ) → Blamed problem old new status text → IsAnswered status
   blame_goes problem lawful statuses.Done text goes = inl refl
@@ -207,7 +215,7 @@ module _ (law : HaveOneAnswer) (old new : FilesTold) (none : Rose old.faults new
   blame_goes problem lawful statuses.WriteFault text goes = absurd goes
   blame_goes problem lawful statuses.Memory text goes = absurd goes
   blame_goes problem lawful statuses.ScriptLimit text goes = absurd goes
-  blame_goes problem lawful statuses.UnknownEvent text goes = absurd goes
+  blame_goes problem lawful statuses.UnknownName text goes = absurd goes
   blame_goes problem lawful statuses.NoMerge text goes = absurd goes
 
   judge_goes : (problem widening : List ℕ) → HoldsProblem old.content problem (λ p. Holds old.content widening (IsWideningText p)) → (status : Status) (line : List ℕ) → WideningJudged problem widening old new status line → IsAnswered status
@@ -223,7 +231,7 @@ module _ (law : HaveOneAnswer) (old new : FilesTold) (none : Rose old.faults new
   judge_goes problem widening lawful statuses.WriteFault line goes = absurd goes
   judge_goes problem widening lawful statuses.Memory line goes = absurd goes
   judge_goes problem widening lawful statuses.ScriptLimit line goes = absurd goes
-  judge_goes problem widening lawful statuses.UnknownEvent line goes = absurd goes
+  judge_goes problem widening lawful statuses.UnknownName line goes = absurd goes
   judge_goes problem widening lawful statuses.NoMerge line goes = absurd goes
 
 module _ (law : HaveOneAnswer) (old new : Devices) (none : IsFaultless old new) where
@@ -243,8 +251,9 @@ module _ (law : HaveOneAnswer) (old new : Devices) (none : IsFaultless old new) 
       → Prints (Verified problem cert old.files new.files) old.out new.out result → IsAnswered result
   verify_answered problem cert result lawful = printed (Verified problem cert old.files new.files) old.out new.out result (verify_goes law old.files new.files none.files problem cert lawful) none.out
 
-  widen_answered : (problem : List ℕ) (result : Status) → HoldsProblem old.files.content problem (λ p. Unit {0}) → Prints (WideningFound problem old.files new.files) old.out new.out result → IsAnswered result
-  widen_answered problem result lawful = printed (WideningFound problem old.files new.files) old.out new.out result (widen_goes law old.files new.files none.files problem lawful) none.out
+  widen_answered : (problem : List ℕ) (ws : List (List ℕ)) (result : Status) → HoldsProblem old.files.content problem (λ p. (what : What) × SaysWhat p ws what)
+      → Prints (WideningFound problem ws old.files new.files) old.out new.out result → IsAnswered result
+  widen_answered problem ws result lawful = printed (WideningFound problem ws old.files new.files) old.out new.out result (widen_goes law old.files new.files none.files problem ws lawful) none.out
 
   blame_answered : (problem : List ℕ) (result : Status) → HoldsProblem old.files.content problem (λ p. Unit {0}) → Prints (Blamed problem old.files new.files) old.out new.out result → IsAnswered result
   blame_answered problem result lawful = printed (Blamed problem old.files new.files) old.out new.out result (blame_goes law old.files new.files none.files problem lawful) none.out
@@ -285,7 +294,7 @@ module _ (old new : Devices) (none : IsFaultless old new) where
   session_goes decl IsWritten lawful short statuses.WriteFault goes = absurd goes
   session_goes decl IsWritten lawful short statuses.Memory goes = absurd goes
   session_goes decl IsWritten lawful short statuses.ScriptLimit (d, has, long) = absurd (not_long old.input.left (λ script. Replied d old new (whole_lines (take most_taken script)) (λ replies. IsWritten (replies ++ codes "script limit\n"))) short long)
-  session_goes decl IsWritten lawful short statuses.UnknownEvent goes = absurd goes
+  session_goes decl IsWritten lawful short statuses.UnknownName goes = absurd goes
   session_goes decl IsWritten lawful short statuses.NoMerge goes = absurd goes
 
   session_answered : (decl : List ℕ) (result : Status) → ((d : Declaration) × Holds old.files.content decl (λ bytes. IsDocumentOf bytes d)) × IsSomeAnd old.input.left (λ bytes. length bytes ≤ most_taken)
@@ -334,7 +343,7 @@ all_answered law (Ends problem first second) old new result answers lawful none 
 all_answered law (Verify problem cert) old new result answers lawful none = verify_answered law old new none problem cert result lawful answers
 all_answered law (Session decl) old new result answers lawful none = session_answered old new none decl result lawful answers
 all_answered law (Trial number) old new result answers lawful none = trial_answered old new none number result lawful answers
-all_answered law (Widen problem) old new result answers lawful none = widen_answered law old new none problem result lawful answers
+all_answered law (Widen problem ws) old new result answers lawful none = widen_answered law old new none problem ws result lawful answers
 all_answered law (Judge problem widening) old new result answers lawful none = judge_answered law old new none problem widening result lawful answers
 all_answered law (Blame problem) old new result answers lawful none = blame_answered law old new none problem result lawful answers
 all_answered law (Mergecap decl) old new result answers lawful none =

@@ -6,3 +6,4 @@ pub mod Completing
 mod MergedScripts
 mod Wholes
 mod Worked
+mod Requests

@@ -130,7 +130,7 @@ module _ (path : List ℕ) (old new : Devices) (before after : SinkTold) where
   quiet_at statuses.WriteFault other same = inr same
   quiet_at statuses.Memory other same = same
   quiet_at statuses.ScriptLimit other same = same
-  quiet_at statuses.UnknownEvent other same = same
+  quiet_at statuses.UnknownName other same = same
   quiet_at statuses.NoMerge other same = same
 
 -- other statuses

@@ -62,10 +62,10 @@ no_bad_cert p text refusal lawful (c, (readings, are, is)) (others, are', refuse
     said_or_refused (said c) refusal (certificate_one p readings text (Found (said c)) (refused_answer refusal) lawful are found same)
 
 pub no_bad_widening : (p : ProblemLists) (text : List ℕ) (refusal : Refusal) → IsProblem p → IsWideningText p text → RefusesWidening p text refusal → ⊥
-no_bad_widening p text refusal lawful (w, (readings, are, is)) (others, are', refused) =
-    let found = (widened.found_is p readings are w text).0 is in
+no_bad_widening p text refusal lawful (what, w, (readings, are, is)) (others, are', refused) =
+    let found = (widened.found_is p readings are what w text).0 is in
     let same = subst (λ (rs : List Reading). Answers (widenings.widening_format p rs) text (refused_answer refusal)) (readings_one p others readings are' are) refused in
-    said_or_refused (widenings.said w) refusal (widening_one p readings text (Found (widenings.said w)) (refused_answer refusal) lawful are found same)
+    said_or_refused (widenings.said what w) refusal (widening_one p readings text (Found (widenings.said what w)) (refused_answer refusal) lawful are found same)
 
 -- a declaration has no first fault
 none_or_some : (e : DeclError) → None ≡ Some e → ⊥

@@ -21,8 +21,21 @@ session decl = refl
 trial : (number : List ℕ) → asked_of (codes "trial" ∷ number ∷ []) ≡ Trial number
 trial number = refl
 
-widen : (problem : List ℕ) → asked_of (codes "widen" ∷ problem ∷ []) ≡ Widen problem
+widen : (problem : List ℕ) → asked_of (codes "widen" ∷ problem ∷ []) ≡ Widen problem (codes "delays" ∷ [])
 widen problem = refl
+
+widen_all : (problem : List ℕ) → asked_of (codes "widen" ∷ problem ∷ codes "least" ∷ []) ≡ Widen problem (codes "least" ∷ [])
+widen_all problem = refl
+
+widen_clock : (problem clock : List ℕ) → asked_of (codes "widen" ∷ problem ∷ codes "rates" ∷ clock ∷ []) ≡ Widen problem (codes "rates" ∷ clock ∷ [])
+widen_clock problem clock = refl
+
+widen_link : (problem from to : List ℕ) → asked_of (codes "widen" ∷ problem ∷ codes "delays" ∷ from ∷ to ∷ []) ≡ Widen problem (codes "delays" ∷ from ∷ to ∷ [])
+widen_link problem from to = refl
+
+-- rates are of clocks
+no_rates_of_links : (problem from to : List ℕ) → asked_of (codes "widen" ∷ problem ∷ codes "rates" ∷ from ∷ to ∷ []) ≡ Nothing
+no_rates_of_links problem from to = refl
 
 judge : (problem widening : List ℕ) → asked_of (codes "judge" ∷ problem ∷ widening ∷ []) ≡ Judge problem widening
 judge problem widening = refl

@@ -1,12 +1,13 @@
 -- What the words of a run ask for.
 use Rattle.std.specs.Prelude.{ℕ, List, [], ◌∷◌, ◌++◌, codes, if◌then◌else◌, ⊤}
 use Rattle.std.specs.Str.{bytes_eq}
+use Rattle.problem_commands.specs.WhatWords.{links_kind, clocks_kind}
 use Rattle.commands.specs.declared.request.Request.{Request}
 use Rattle.commands.specs.declared.request.Request.TheVariants as request
 
 -- ---- what is asked for
--- a command with the words behind it: paths of files, names of events, the text of a number; the help, the version; or nothing that
--- there is
+-- a command with the words behind it: paths of files, names of events, the text of a number, words that name what is widened; the
+-- help, the version; or nothing that there is
 pub data Asked : Type 0 where
   Obey : List ℕ → List ℕ → Asked
   Solve : List ℕ → Asked
@@ -14,7 +15,7 @@ pub data Asked : Type 0 where
   Verify : List ℕ → List ℕ → Asked
   Session : List ℕ → Asked
   Trial : List ℕ → Asked
-  Widen : List ℕ → Asked
+  Widen : List ℕ → List (List ℕ) → Asked
   Judge : List ℕ → List ℕ → Asked
   Blame : List ℕ → Asked
   Mergecap : List ℕ → Asked
@@ -22,22 +23,44 @@ pub data Asked : Type 0 where
   Version : Asked
   Nothing : Asked
 
--- what a first word asks for, by the words behind it
+-- what is widened of a problem: all numbers of a kind, or those of one clock or of one link, of the kinds that have such
+abbrev pub widen_all : List ℕ → List ℕ → Asked
+widen_all problem kind =
+    if bytes_eq kind (codes "delays") then Widen problem (codes "delays" ∷ [])
+    else if bytes_eq kind (codes "least") then Widen problem (codes "least" ∷ [])
+    else if bytes_eq kind (codes "stamps") then Widen problem (codes "stamps" ∷ [])
+    else if bytes_eq kind (codes "rates") then Widen problem (codes "rates" ∷ []) else Nothing
+
+abbrev pub widen_clock : List ℕ → List ℕ → List ℕ → Asked
+widen_clock problem kind clock =
+    if bytes_eq kind (codes "stamps") then Widen problem (codes "stamps" ∷ clock ∷ [])
+    else if bytes_eq kind (codes "rates") then Widen problem (codes "rates" ∷ clock ∷ []) else Nothing
+
+abbrev pub widen_link : List ℕ → List ℕ → List ℕ → List ℕ → Asked
+widen_link problem kind from to =
+    if bytes_eq kind (codes "delays") then Widen problem (codes "delays" ∷ from ∷ to ∷ [])
+    else if bytes_eq kind (codes "least") then Widen problem (codes "least" ∷ from ∷ to ∷ []) else Nothing
+
+-- what a first word asks for, by the words behind it; without more `widen` asks for all greatest delays
 abbrev pub asked_by : List ℕ → List (List ℕ) → Asked
 asked_by name [] = if bytes_eq name (codes "--help") then Help else if bytes_eq name (codes "--version") then Version else Nothing
 asked_by name (a ∷ []) =
     if bytes_eq name (codes "solve") then Solve a
     else if bytes_eq name (codes "session") then Session a
     else if bytes_eq name (codes "trial") then Trial a
-    else if bytes_eq name (codes "widen") then Widen a
+    else if bytes_eq name (codes "widen") then Widen a (codes "delays" ∷ [])
     else if bytes_eq name (codes "blame") then Blame a
     else if bytes_eq name (codes "mergecap") then Mergecap a else Nothing
 asked_by name (a ∷ b ∷ []) =
     if bytes_eq name (codes "obey") then Obey a b
     else if bytes_eq name (codes "verify") then Verify a b
-    else if bytes_eq name (codes "judge") then Judge a b else Nothing
-asked_by name (a ∷ b ∷ c ∷ []) = if bytes_eq name (codes "ends") then Ends a b c else Nothing
-asked_by name (a ∷ b ∷ c ∷ d ∷ more) = Nothing
+    else if bytes_eq name (codes "judge") then Judge a b
+    else if bytes_eq name (codes "widen") then widen_all a b else Nothing
+asked_by name (a ∷ b ∷ c ∷ []) =
+    if bytes_eq name (codes "ends") then Ends a b c
+    else if bytes_eq name (codes "widen") then widen_clock a b c else Nothing
+asked_by name (a ∷ b ∷ c ∷ d ∷ []) = if bytes_eq name (codes "widen") then widen_link a b c d else Nothing
+asked_by name (a ∷ b ∷ c ∷ d ∷ e ∷ more) = Nothing
 
 -- what words ask for
 abbrev pub asked_of : List (List ℕ) → Asked
@@ -52,7 +75,10 @@ seen_request (request.Ends problem first second) = Ends problem.now first.now se
 seen_request (request.Verify problem cert) = Verify problem.now cert.now
 seen_request (request.Session decl) = Session decl.now
 seen_request (request.Trial number) = Trial number.now
-seen_request (request.Widen problem) = Widen problem.now
+seen_request (request.WidenLinks problem kind) = Widen problem.now (links_kind kind ∷ [])
+seen_request (request.WidenClocks problem kind) = Widen problem.now (clocks_kind kind ∷ [])
+seen_request (request.WidenLink problem kind from to) = Widen problem.now (links_kind kind ∷ from.now ∷ to.now ∷ [])
+seen_request (request.WidenClock problem kind clock) = Widen problem.now (clocks_kind kind ∷ clock.now ∷ [])
 seen_request (request.Judge problem widening) = Judge problem.now widening.now
 seen_request (request.Blame problem) = Blame problem.now
 seen_request (request.Mergecap decl) = Mergecap decl.now
@@ -77,7 +103,7 @@ ReadsNoScript _ = ⊤
 -- ---- what is printed without a file
 -- where nothing that there is was asked for
 abbrev pub usage_line : List ℕ
-usage_line = codes "usage: tracesync obey PROBLEM EXEC | solve PROBLEM | ends PROBLEM P Q | verify PROBLEM CERT | session DECL | trial N | widen PROBLEM | judge PROBLEM WIDENING | blame PROBLEM | mergecap DECL | --help | --version\n"
+usage_line = codes "usage: tracesync obey PROBLEM EXEC | solve PROBLEM | ends PROBLEM P Q | verify PROBLEM CERT | session DECL | trial N | widen PROBLEM WHAT.. | judge PROBLEM WIDENING | blame PROBLEM | mergecap DECL | --help | --version\n"
 
 -- the commands, each with what it is for
 abbrev pub help_text : List ℕ
@@ -89,7 +115,8 @@ help_text =
     ++ codes "  obey PROBLEM EXEC       whether these real times obey every declared bound; if not, the first one that they break\n"
     ++ codes "  verify PROBLEM CERT     whether a certificate shows what it should; if not, the first reason why not\n"
     ++ codes "  trial N                 answers a session over logs that the program makes, always the same ones for the same N\n"
-    ++ codes "  widen PROBLEM           by how many ns every greatest delay must grow at least so that nothing contradicts any more\n"
+    ++ codes "  widen PROBLEM WHAT..    by how much WHAT must widen at least so that nothing contradicts any more: all greatest delays, or\n"
+    ++ codes "                          one of delays, least, stamps, rates, stamps CLOCK, rates CLOCK, delays FROM TO, least FROM TO\n"
     ++ codes "  judge PROBLEM WIDENING  whether what widen says is so; if not, the first reason why not\n"
     ++ codes "  blame PROBLEM           by how much each kind of bound, and each clock's, must widen so that it alone heals a contradiction\n"
     ++ codes "  mergecap DECL < SCRIPT  the packets of all captures that SCRIPT adds, as one capture in the order of their events' times\n"
@@ -101,4 +128,4 @@ help_text =
 
 -- the number of the version, by the changelog
 abbrev pub version_text : List ℕ
-version_text = codes "tracesync 24\n"
+version_text = codes "tracesync 25\n"

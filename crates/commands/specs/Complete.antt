@@ -10,7 +10,9 @@ use Rattle.cert.specs.declared.certificate.Cert.{Cert}
 use Rattle.cert.specs.ReadsExecution.{IsTextOf}
 use Rattle.decl.specs.Declaration.{Declaration}
 use Rattle.decl.specs.Walk.{IsDocumentOf}
+use Rattle.cert_check.specs.declared.what.What.{What}
 use Rattle.widen.specs.declared.widening.Widening.{Widening}
+use Rattle.widen.specs.Named.{SaysWhat}
 use Rattle.session.specs.Script.{Devices}
 use Rattle.commands.specs.Asked.{Asked}
 use Rattle.commands.specs.Asked.Asked.{Obey, Solve, Ends, Verify, Session, Trial, Widen, Judge, Blame, Mergecap, Help, Version, Nothing}
@@ -39,15 +41,15 @@ IsCertText p text = (c : Cert) × SpellsCert p c text
 
 -- the text is that of a widening of the problem, whether or not it shows what it should
 abbrev pub IsWideningText : ProblemLists → List ℕ → Type 0
-IsWideningText p text = (w : Widening) × SpellsWidening p w text
+IsWideningText p text = (what : What) × (w : Widening) × SpellsWidening p what w text
 
 -- the file at the path declares something, and the script is not too long
 abbrev pub HasScript : Content → List ℕ → Option (List ℕ) → Type 0
 HasScript files decl script = ((d : Declaration) × Holds files decl (λ bytes. IsDocumentOf bytes d)) × IsSomeAnd script (λ bytes. length bytes ≤ most_taken)
 
 -- ---- the run
--- something that there is was asked for; no file that is named is absent or refused, and events by name are ones of the problem; a
--- script is not too long
+-- something that there is was asked for; no file that is named is absent or refused, and events and clocks by name are ones of the
+-- problem; a script is not too long
 abbrev pub IsLawfulInput : Asked → Content → Option (List ℕ) → Type 0
 IsLawfulInput (Obey problem exec) files script = HoldsProblem files problem (λ p. Holds files exec (IsExecutionText p))
 IsLawfulInput (Solve problem) files script = HoldsProblem files problem (λ p. Unit {0})
@@ -55,7 +57,7 @@ IsLawfulInput (Ends problem first second) files script = HoldsProblem files prob
 IsLawfulInput (Verify problem cert) files script = HoldsProblem files problem (λ p. Holds files cert (IsCertText p))
 IsLawfulInput (Session decl) files script = HasScript files decl script
 IsLawfulInput (Trial number) files script = (n : ℕ) × IsNumber n number
-IsLawfulInput (Widen problem) files script = HoldsProblem files problem (λ p. Unit {0})
+IsLawfulInput (Widen problem ws) files script = HoldsProblem files problem (λ p. (what : What) × SaysWhat p ws what)
 IsLawfulInput (Judge problem widening) files script = HoldsProblem files problem (λ p. Holds files widening (IsWideningText p))
 IsLawfulInput (Blame problem) files script = HoldsProblem files problem (λ p. Unit {0})
 IsLawfulInput (Mergecap decl) files script = HasScript files decl script

@@ -68,8 +68,8 @@ fn print<O: Sink>(ordered: &[Stored], out: &mut O) -> Status
     }
 }
 
-/// Prints the packets of all captures that a script adds, in a session over the declaration in a file, as one capture. What there
-/// is to tell of the captures beside it goes to `notes`.
+/// Prints the packets of all captures that a script adds, in a session over the declaration in a file, as one capture.
+/// What there is to tell of the captures beside it goes to `notes`.
 pub fn mergecap<F: Files, I: Source, O: Sink, N: Sink, L: Ledger>(
     file: &DeclFile,
     files: &mut F,

@@ -23,6 +23,7 @@ use problem_commands::last_line::finish;
 use problem_commands::obey::obey;
 use problem_commands::solve::solve;
 use problem_commands::verify::verify;
+use problem_commands::what_words::WhatWords;
 use problem_commands::widening::widen;
 use std::alloc::Global;
 use std::marker::Brand;
@@ -67,7 +68,31 @@ fn run_counted<F: Files, I: Source, O: Sink, N: Sink, L: Ledger>(
         Request::Verify { problem, cert } => verify(alloc, files, problem, cert, out),
         Request::Session { decl } => session(alloc, files, decl, input, out, &mut steps),
         Request::Trial { number } => trial(alloc, number, out, &mut steps),
-        Request::Widen { problem } => widen(alloc, files, problem, out, &mut steps),
+        Request::WidenLinks { problem, kind } => {
+            let what = WhatWords::Links(kind);
+            widen(alloc, files, problem, &what, out, &mut steps)
+        }
+        Request::WidenClocks { problem, kind } => {
+            let what = WhatWords::Clocks(kind);
+            widen(alloc, files, problem, &what, out, &mut steps)
+        }
+        Request::WidenLink {
+            problem,
+            kind,
+            from,
+            to,
+        } => {
+            let what = WhatWords::Link { kind, from, to };
+            widen(alloc, files, problem, &what, out, &mut steps)
+        }
+        Request::WidenClock {
+            problem,
+            kind,
+            clock,
+        } => {
+            let what = WhatWords::Clock { kind, clock };
+            widen(alloc, files, problem, &what, out, &mut steps)
+        }
         Request::Judge { problem, widening } => judge(alloc, files, problem, widening, out),
         Request::Blame { problem } => blame(alloc, files, problem, out, &mut steps),
         Request::Mergecap { decl } => {
@@ -88,29 +113,30 @@ fn run_counted<F: Files, I: Source, O: Sink, N: Sink, L: Ledger>(
 /// order, or a contradiction; `verify PROBLEM CERT` says whether a certificate of the problem shows what it should, or
 /// the first reason why not; `session DECL` answers the lines of the input, one after another, in a session over the
 /// declaration; `trial N` makes a workload by its number, and prints how many events and messages a session over it has
-/// at its end, and its replies to the last questions for intervals; `widen PROBLEM` prints the least widening of the
-/// problem, with what shows it from both sides, or that there is none; `judge PROBLEM WIDENING` says whether such a
-/// text shows what it should, or the first reason why not; `blame PROBLEM` prints by how much all delays, stamps or
-/// rates, or those of one clock, must be widened at least so that this alone heals a contradiction; `mergecap DECL`
-/// adds what the lines of the input say, each an `add`, in a session over the declaration, and prints the packets
-/// of all captures as one, in the order of their events' times; `--help` prints the commands, each with what it is
-/// for, `--version` the number of the version.
+/// at its end, and its replies to the last questions for intervals; `widen PROBLEM WHAT..` prints the least widening of
+/// what the words name of the problem, of all greatest delays without any, with what shows it from both sides, or that
+/// there is none; `judge PROBLEM WIDENING` says whether such a text shows what it should, or the first reason why not;
+/// `blame PROBLEM` prints by how much all delays, stamps or rates, or those of one clock, must be widened at least so
+/// that this alone heals a contradiction; `mergecap DECL` adds what the lines of the input say, each an `add`, in a
+/// session over the declaration, and prints the packets of all captures as one, in the order of their events' times;
+/// `--help` prints the commands, each with what it is for, `--version` the number of the version.
+///
 /// `Usage` comes where the words are of no form, `BadDecl`, `BadProblem`, `BadExec` and `BadCert` where a text is
-/// refused, `UnknownEvent` where the problem has no event of a name, `ReadFault` where a named file is not there or a
-/// read failed, `ScriptLimit` where the input of a session or of a merge is too long, `NoMerge` where there is no
-/// merge, with one line that says why, `WriteFault` where a write failed, `Memory` where memory ran out, and else
+/// refused, `UnknownName` where the problem has no event or no clock of a name, `ReadFault` where a named file is not
+/// there or a read failed, `ScriptLimit` where the input of a session or of a merge is too long, `NoMerge` where there
+/// is no merge, with one line that says why, `WriteFault` where a write failed, `Memory` where memory ran out, and else
 /// `Done` or `No` with the answer. Beside `WriteFault` a front of what was to be printed stands written; beside
 /// `Memory` nothing, but in a session the replies to the lines before one that may ask for memory. No command but
 /// `session` and `mergecap` reads the input, and `trial` reads no file, nor is one read where the words are of no form.
 ///
 /// Beside a merge, a line `LABEL pending B` in `notes` tells how many bytes stand behind the last whole record or block
-/// of a capture, and a line `LABEL passed simple S obsolete O other X` how many of its packets were passed over. A write
-/// to `notes` that fails changes neither the status nor what is printed. Nothing else is written there.
+/// of a capture, and a line `LABEL passed simple S obsolete O other X` how many of its packets were passed over. A
+/// write to `notes` that fails changes neither the status nor what is printed. Nothing else is written there.
 ///
-/// Where the words are of a form, no file that they name is absent or refused, events by name are ones of the problem,
-/// the input of a session or of a merge is not too long, and no count of faults rose, nothing ends the run but `Done`,
-/// `No`, `Memory` and, in a merge, `NoMerge` (`complete`); what is printed with them, and when which of them comes, the
-/// clause of the form says.
+/// Where the words are of a form, no file that they name is absent or refused, events and clocks by name are ones of
+/// the problem, the input of a session or of a merge is not too long, and no count of faults rose, nothing ends the run
+/// but `Done`, `No`, `Memory` and, in a merge, `NoMerge` (`complete`); what is printed with them, and when which of
+/// them comes, the clause of the form says.
 pub fn run<F: Files, I: Source, O: Sink, N: Sink>(
     alloc: Global,
     words: &Words,

@@ -1,8 +1,9 @@
 // What the words of a command line ask for.
 ghost use Rattle.std.specs.Prelude.{◌≡◌, [], ◌∷◌};
-ghost use Rattle.commands.specs.Asked.{asked_by, asked_of, seen_request};
+ghost use Rattle.commands.specs.Asked.{asked_by, asked_of, seen_request, widen_all, widen_clock, widen_link};
 
 use ports::Words;
+use problem_commands::what_words::{KindOfClocks, KindOfLinks};
 
 /// What the words of a command line ask for.
 #[derive(Clone, Copy, Debug)]
@@ -35,9 +36,28 @@ pub enum Request<'a> {
     Trial {
         number: &'a str,
     },
-    /// `widen PROBLEM`.
-    Widen {
+    /// `widen PROBLEM KIND`, and `widen PROBLEM`, which is of greatest delays.
+    WidenLinks {
         problem: &'a str,
+        kind: KindOfLinks,
+    },
+    /// `widen PROBLEM KIND`.
+    WidenClocks {
+        problem: &'a str,
+        kind: KindOfClocks,
+    },
+    /// `widen PROBLEM KIND FROM TO`.
+    WidenLink {
+        problem: &'a str,
+        kind: KindOfLinks,
+        from: &'a str,
+        to: &'a str,
+    },
+    /// `widen PROBLEM KIND CLOCK`.
+    WidenClock {
+        problem: &'a str,
+        kind: KindOfClocks,
+        clock: &'a str,
     },
     /// `judge PROBLEM WIDENING`.
     Judge {
@@ -71,6 +91,71 @@ fn asked_alone<'a>(name: &str) -> Request<'a>
     }
 }
 
+// What `widen` asks for with a kind.
+fn widen_all<'a>(problem: &'a str, kind: &str) -> Request<'a>
+    ensures { seen_request result ≡ widen_all problem.now kind.now }
+{
+    match kind {
+        "delays" => Request::WidenLinks {
+            problem,
+            kind: KindOfLinks::Delays,
+        },
+        "least" => Request::WidenLinks {
+            problem,
+            kind: KindOfLinks::Least,
+        },
+        "stamps" => Request::WidenClocks {
+            problem,
+            kind: KindOfClocks::Stamps,
+        },
+        "rates" => Request::WidenClocks {
+            problem,
+            kind: KindOfClocks::Rates,
+        },
+        _ => Request::Nothing,
+    }
+}
+
+// What `widen` asks for with a kind and the name of a clock.
+fn widen_clock<'a>(problem: &'a str, kind: &str, clock: &'a str) -> Request<'a>
+    ensures { seen_request result ≡ widen_clock problem.now kind.now clock.now }
+{
+    match kind {
+        "stamps" => Request::WidenClock {
+            problem,
+            kind: KindOfClocks::Stamps,
+            clock,
+        },
+        "rates" => Request::WidenClock {
+            problem,
+            kind: KindOfClocks::Rates,
+            clock,
+        },
+        _ => Request::Nothing,
+    }
+}
+
+// What `widen` asks for with a kind and the names of two clocks.
+fn widen_link<'a>(problem: &'a str, kind: &str, from: &'a str, to: &'a str) -> Request<'a>
+    ensures { seen_request result ≡ widen_link problem.now kind.now from.now to.now }
+{
+    match kind {
+        "delays" => Request::WidenLink {
+            problem,
+            kind: KindOfLinks::Delays,
+            from,
+            to,
+        },
+        "least" => Request::WidenLink {
+            problem,
+            kind: KindOfLinks::Least,
+            from,
+            to,
+        },
+        _ => Request::Nothing,
+    }
+}
+
 // What a word with one more asks for.
 fn asked_of_one<'a>(name: &str, first: &'a str) -> Request<'a>
     ensures { seen_request result ≡ asked_by name.now (first.now ∷ []) }
@@ -79,7 +164,10 @@ fn asked_of_one<'a>(name: &str, first: &'a str) -> Request<'a>
         "solve" => Request::Solve { problem: first },
         "session" => Request::Session { decl: first },
         "trial" => Request::Trial { number: first },
-        "widen" => Request::Widen { problem: first },
+        "widen" => Request::WidenLinks {
+            problem: first,
+            kind: KindOfLinks::Delays,
+        },
         "blame" => Request::Blame { problem: first },
         "mergecap" => Request::Mergecap { decl: first },
         _ => Request::Nothing,
@@ -103,6 +191,7 @@ fn asked_of_two<'a>(name: &str, first: &'a str, second: &'a str) -> Request<'a>
             problem: first,
             widening: second,
         },
+        "widen" => widen_all(first, second),
         _ => Request::Nothing,
     }
 }
@@ -117,6 +206,23 @@ fn asked_of_three<'a>(name: &str, first: &'a str, second: &'a str, third: &'a st
             first: second,
             second: third,
         },
+        "widen" => widen_clock(first, second, third),
+        _ => Request::Nothing,
+    }
+}
+
+// What a word with four more asks for.
+fn asked_of_four<'a>(
+    name: &str,
+    first: &'a str,
+    second: &'a str,
+    third: &'a str,
+    fourth: &'a str,
+) -> Request<'a>
+    ensures { seen_request result ≡ asked_by name.now (first.now ∷ second.now ∷ third.now ∷ fourth.now ∷ []) }
+{
+    match name {
+        "widen" => widen_link(first, second, third, fourth),
         _ => Request::Nothing,
     }
 }
@@ -130,6 +236,13 @@ pub fn request_of(words: &Words) -> Request<'_>
         2 => asked_of_one(words.word(0), words.word(1)),
         3 => asked_of_two(words.word(0), words.word(1), words.word(2)),
         4 => asked_of_three(words.word(0), words.word(1), words.word(2), words.word(3)),
+        5 => asked_of_four(
+            words.word(0),
+            words.word(1),
+            words.word(2),
+            words.word(3),
+            words.word(4),
+        ),
         _ => Request::Nothing,
     }
 }

@@ -63,8 +63,9 @@ fn number_of(text: &str) -> Option<u32>
     }
 }
 
-/// Goes over the workload of the trial whose number this text is, and prints how many events and messages its session then
-/// has, and its replies to the last questions for intervals. Where the text is no decimal below 2^32, it prints the usage.
+/// Goes over the workload of the trial whose number this text is, and prints how many events and messages its session
+/// then has, and its replies to the last questions for intervals. Where the text is no decimal below 2^32, it prints
+/// the usage.
 pub fn trial<O: Sink, L: Ledger>(
     alloc: Global,
     text: &str,

@@ -28,9 +28,9 @@ fn ended(status: Status, is_passed: bool) -> Status
 
 /// Does what the words say, as `run` does, over an output that is handed over, and gives that back with the status.
 ///
-/// The replies of `session` are written one by one, before the next line is read. What any other command prints is held in
-/// pieces of 64 KiB, and the last one is passed on at the end: then all that was printed stands written, or the status is
-/// `WriteFault` and a front of it does. Notes are written at once.
+/// The replies of `session` are written one by one, before the next line is read. What any other command prints is held
+/// in pieces of 64 KiB, and the last one is passed on at the end: then all that was printed stands written, or the
+/// status is `WriteFault` and a front of it does. Notes are written at once.
 pub fn run_to_end<F: Files, I: Source, O: Sink + Drop, N: Sink>(
     alloc: Global,
     words: &Words,

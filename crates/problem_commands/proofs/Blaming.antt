@@ -16,12 +16,13 @@ use Rattle.cert_check.proofs.Widening.{not_widened}
 use Rattle.widen.specs.declared.widening.Widening.{Widening}
 use Rattle.widen.specs.declared.widening.Widening.TheVariants.{Least, Never}
 use Rattle.widen.specs.Least.{HasExecution, IsLeastWidening, HasNoWidening}
+use Rattle.widen.specs.Named.{what_words}
 use Rattle.widen.specs.Found.{FindsWidening}
 use Rattle.widen.proofs.FoundTexts.{least_found, never_found}
 use Rattle.problem_commands.specs.Printing.{Prints}
 use Rattle.problem_commands.specs.Texts.{SpellsProblem, RefusesProblem}
 use Rattle.problem_commands.specs.Unread.{IsUnread, TellsUnread}
-use Rattle.problem_commands.specs.Blame.{candidates, clock_candidates, what_words, unit_of, healing_words, blame_line, IsHealing, Blames, IsBlamedUpTo, IsBlameText, TellsBlame, Blamed}
+use Rattle.problem_commands.specs.Blame.{candidates, clock_candidates, unit_of, healing_words, blame_line, IsHealing, Blames, IsBlamedUpTo, IsBlameText, TellsBlame, Blamed}
 use Rattle.problem_commands.specs.declared.status.Status.{Status}
 use Rattle.problem_commands.specs.declared.status.Status.TheVariants as statuses
 use Rattle.problem_commands.specs.declared.texts.Unread.{Unread}

@@ -6,5 +6,6 @@ pub mod Obeying
 pub mod Solving
 pub mod Intervals
 pub mod Verifying
+pub mod ClockNames
 pub mod Widenings
 pub mod Blaming

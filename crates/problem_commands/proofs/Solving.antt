@@ -36,7 +36,7 @@ module _ (problem : List ℕ) (old new : FilesTold) (out out' : SinkTold) (resul
 
     named_goes : (p : ProblemLists) → HasBytes old.content problem (SpellsProblem p) → (status : Status) (text : List ℕ) → TellsNamed p first second status text → Goes status text
     named_goes p has status text (inl (from, to, named, named', tells)) = at_status Goes statuses.Done status text tells.0 (p, from, to, has, named, named', tells.1)
-    named_goes p has status text (inr (unknown, only)) = only_goes Goes (codes "unknown event\n") statuses.UnknownEvent (p, has, unknown, refl) status text only
+    named_goes p has status text (inr (unknown, only)) = only_goes Goes (codes "unknown event\n") statuses.UnknownName (p, has, unknown, refl) status text only
 
     pub named_ends : (p : ProblemLists) → HasBytes old.content problem (SpellsProblem p) → Prints (TellsNamed p first second) out out' result → Prints (IntervalAnswered problem first second old new) out out' result
     named_ends p has prints = prints_as (TellsNamed p first second) Goes out out' result (named_goes p has) prints
@@ -47,6 +47,6 @@ module _ (p : ProblemLists) (first second : List ℕ) (out out' : SinkTold) (res
   known_names from to named named' prints =
       prints_as (TellsInterval p from to) (TellsNamed p first second) out out' result (λ status text tells. inl (from, to, named, named', tells)) prints
 
-  pub unknown_name : IsUnknown p first ⊎ IsUnknown p second → Prints (IsOnlyText (codes "unknown event\n") statuses.UnknownEvent) out out' result → Prints (TellsNamed p first second) out out' result
+  pub unknown_name : IsUnknown p first ⊎ IsUnknown p second → Prints (IsOnlyText (codes "unknown event\n") statuses.UnknownName) out out' result → Prints (TellsNamed p first second) out out' result
   unknown_name unknown prints =
-      prints_as (IsOnlyText (codes "unknown event\n") statuses.UnknownEvent) (TellsNamed p first second) out out' result (λ status text only. inr (unknown, only)) prints
+      prints_as (IsOnlyText (codes "unknown event\n") statuses.UnknownName) (TellsNamed p first second) out out' result (λ status text only. inr (unknown, only)) prints

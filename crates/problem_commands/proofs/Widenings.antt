@@ -24,7 +24,9 @@ use Rattle.cert_check.specs.declared.answer.Part.TheVariants.{Cycle, Run, Upper,
 use Rattle.cert_check.specs.declared.answer.Reason.{Reason}
 use Rattle.cert_check.specs.declared.answer.Reason.TheVariants.{Empty, Weight, Join, Sum, Broken, Difference, Home, Away, Leaves}
 use Rattle.widen.specs.declared.widening.Widening.{Widening}
+use Rattle.widen.specs.declared.widening.StatedWidening.{StatedWidening}
 use Rattle.widen.specs.declared.widening.Widening.TheVariants.{Least, Never}
+use Rattle.widen.specs.Named.{NamesWhat, SaysWhat}
 use Rattle.widen.specs.Least.{most_extra}
 use Rattle.widen.specs.Widening.{ShowsWidening, IsAnswerBelow, IsJudged}
 use Rattle.widen.specs.WideningText.{widening_text}
@@ -35,12 +37,13 @@ use Rattle.widen.specs.Found.{FindsWidening}
 use Rattle.cert_check.proofs.Comparing.{declared_back}
 use Rattle.widen.proofs.Rising.{shown_least, shown_never}
 use Rattle.widen.proofs.FoundTexts.{least_found, never_found, text_of}
-use Rattle.problem_commands.specs.Printing.{Prints}
+use Rattle.problem_commands.specs.Printing.{IsOnlyText, Prints}
 use Rattle.problem_commands.specs.Refusal.{refused_answer}
 use Rattle.problem_commands.specs.Texts.{SpellsProblem, RefusesProblem}
 use Rattle.problem_commands.specs.Unread.{IsUnread, IsRefusedFor, IsLong, TellsUnread, unread_cert}
 use Rattle.problem_commands.specs.Verify.{NamesReason, NamesAnswer, TellsAnswer, no_line}
-use Rattle.problem_commands.specs.Widening.{all_delays, SpellsWidening, RefusesWidening, IsTrueOf, IsLeastText, TellsLeast, WideningFound, WideningJudged}
+use Rattle.problem_commands.specs.Widening.{SpellsWidening, RefusesWidening, IsTrueOf, IsLeastText, TellsLeast, TellsLeastNamed, WideningFound, WideningJudged}
+use Rattle.problem_commands.specs.WhatWords.{SaysNothing}
 use Rattle.problem_commands.specs.declared.refusal.Refusal.{Refusal}
 use Rattle.problem_commands.specs.declared.status.Status.{Status}
 use Rattle.problem_commands.specs.declared.status.Status.TheVariants as statuses
@@ -53,22 +56,33 @@ true_found : (what : What) (p : ProblemLists) (w : Widening) → FindsWidening w
 true_found what p (Least extra execution cycle) found = least_found what p extra execution cycle found
 true_found what p (Never cycle) found = never_found what p cycle found
 
-pub least_text : (p : ProblemLists) (readings : List Reading) (w : Widening) → IsProblem p → AreReadings p readings → FindsWidening all_delays p w → IsLeastText p (widening_text p (nodes_of p readings) w)
-least_text p readings w lawful are found = (w, true_found all_delays p w found, found, (readings, are, text_of all_delays p readings lawful are w found))
+pub least_text : (p : ProblemLists) (readings : List Reading) (what : What) (w : Widening) → IsProblem p → AreReadings p readings → NamesWhat p what → FindsWidening what p w → IsLeastText p what (widening_text p (nodes_of p readings) what w)
+least_text p readings what w lawful are named found = (w, true_found what p w found, found, (readings, are, text_of what p readings lawful are named w found))
 
-module _ (problem : List ℕ) (old new : FilesTold) (out out' : SinkTold) (result : Status) where
-  pub widen_stops : (u : Unread) → IsUnread RefusesProblem problem old new u → Prints (TellsUnread u (codes "problem") statuses.BadProblem) out out' result → Prints (WideningFound problem old new) out out' result
-  widen_stops u is prints =
-      unread_prints (WideningFound problem old new) RefusesProblem problem old new (codes "problem") statuses.BadProblem (λ refusal has. (refusal, has, refl)) (λ missed. (missed, refl)) u out out' result is prints
+module _ (p : ProblemLists) (ws : List (List ℕ)) (out out' : SinkTold) (result : Status) where
+  pub named_least : (what : What) → SaysWhat p ws what → Prints (TellsLeast p what) out out' result → Prints (TellsLeastNamed p ws) out out' result
+  named_least what says prints = prints_as (TellsLeast p what) (TellsLeastNamed p ws) out out' result (λ status text tells. inl (what, says, tells)) prints
 
-  pub widened_found : (p : ProblemLists) → HasBytes old.content problem (SpellsProblem p) → Prints (TellsLeast p) out out' result → Prints (WideningFound problem old new) out out' result
-  widened_found p has prints =
-      prints_as (TellsLeast p) (WideningFound problem old new) out out' result
-      (λ status text tells. at_status (WideningFound problem old new) statuses.Done status text tells.0 (p, has, tells.1)) prints
+  pub unknown_clock : SaysNothing p ws → Prints (IsOnlyText (codes "unknown clock\n") statuses.UnknownName) out out' result → Prints (TellsLeastNamed p ws) out out' result
+  unknown_clock none prints = prints_as (IsOnlyText (codes "unknown clock\n") statuses.UnknownName) (TellsLeastNamed p ws) out out' result (λ status text only. inr (none, only)) prints
+
+module _ (problem : List ℕ) (ws : List (List ℕ)) (old new : FilesTold) (out out' : SinkTold) (result : Status) where
+  abbrev Goes : Status → List ℕ → Type 0
+  Goes = WideningFound problem ws old new
+
+  pub widen_stops : (u : Unread) → IsUnread RefusesProblem problem old new u → Prints (TellsUnread u (codes "problem") statuses.BadProblem) out out' result → Prints (WideningFound problem ws old new) out out' result
+  widen_stops u is prints = unread_prints Goes RefusesProblem problem old new (codes "problem") statuses.BadProblem (λ refusal has. (refusal, has, refl)) (λ missed. (missed, refl)) u out out' result is prints
+
+  named_goes : (p : ProblemLists) → HasBytes old.content problem (SpellsProblem p) → (status : Status) (text : List ℕ) → TellsLeastNamed p ws status text → WideningFound problem ws old new status text
+  named_goes p has status text (inl (what, says, tells)) = at_status Goes statuses.Done status text tells.0 (p, what, has, says, tells.1)
+  named_goes p has status text (inr (none, only)) = only_goes Goes (codes "unknown clock\n") statuses.UnknownName (p, has, none, refl) status text only
+
+  pub widened_found : (p : ProblemLists) → HasBytes old.content problem (SpellsProblem p) → Prints (TellsLeastNamed p ws) out out' result → Prints (WideningFound problem ws old new) out out' result
+  widened_found p has prints = prints_as (TellsLeastNamed p ws) Goes out out' result (named_goes p has) prints
 
 -- ---- the text of a widening in a file
-pub widening_in : (files : Content) (path text : List ℕ) (P : Widening → List ℕ → Type 0) (Q : Widening → Answer → Type 0) (r : Result Answer Unread) → IsWhole files path text
-    → IfOk r (λ v. (w : Widening) × P w text × Q w v) → IfOk r (λ v. (w : Widening) × HasBytes files path (P w) × Q w v)
+pub widening_in : (files : Content) (path text : List ℕ) (P : StatedWidening → List ℕ → Type 0) (Q : StatedWidening → Answer → Type 0) (r : Result Answer Unread) → IsWhole files path text
+    → IfOk r (λ v. (s : StatedWidening) × P s text × Q s v) → IfOk r (λ v. (s : StatedWidening) × HasBytes files path (P s) × Q s v)
 widening_in files path text P Q (Ok v) has is = (is.0, spelled_in files path text (P is.0) has is.1, is.2)
 widening_in files path text P Q (Err e) has is = tt
 
@@ -80,8 +94,8 @@ widening_refused p text (errors.Limit line) reads readings are = (readings, are,
 widening_refused p text errors.Long reads readings are = (readings, are, reads readings are)
 widening_refused p text errors.Memory reads readings are = tt
 
-pub widening_spelled : (p : ProblemLists) (text : List ℕ) (w : Widening) (readings : List Reading) → AreReadings p readings → ReadsWidening p text (Ok w) → SpellsWidening p w text
-widening_spelled p text w readings are reads = (readings, are, reads readings are)
+pub widening_spelled : (p : ProblemLists) (text : List ℕ) (s : StatedWidening) (readings : List Reading) → AreReadings p readings → ReadsWidening p text (Ok s) → SpellsWidening p s.what s.widening text
+widening_spelled p text s readings are reads = (readings, are, reads readings are)
 
 long_widening : (p : ProblemLists) (readings : List Reading) → AreReadings p readings → (text : List ℕ) (refusal : Refusal) → IsLong text refusal → RefusesWidening p text refusal
 long_widening p readings are text refusal long = (readings, are, subst (λ (r : Refusal). Answers (widening_format p readings) text (refused_answer r)) (sym long.0) long.1)
@@ -161,7 +175,7 @@ judged_named what p (Least extra execution cycle) answer lawful (inr is) = below
 judged_named what p (Never cycle) answer lawful is = cycle_answer what p lawful most_extra cycle answer is
 
 -- ---- what is shown is true
-true_shown : (what : What) (p : ProblemLists) (w : Widening) (text : List ℕ) → SpellsWidening p w text → ShowsWidening what p w → IsTrueOf what p w
+true_shown : (what : What) (p : ProblemLists) (w : Widening) (text : List ℕ) → SpellsWidening p what w text → ShowsWidening what p w → IsTrueOf what p w
 true_shown what p (Least extra execution cycle) text (readings, are, is) shows = shown_least what p extra execution cycle is.2.0 is.1 shows
 true_shown what p (Never cycle) text spelled shows = shown_never what p cycle shows
 
@@ -189,29 +203,31 @@ module _ (problem widening : List ℕ) (out out' : SinkTold) (result : Status) w
         )) (λ missed. (inr (p, has, (mid, keeps, missed)), refl)) u out out' result is prints
 
     -- the widening was judged
-    module _ (w : Widening) (spelled : HasBytes mid.content widening (SpellsWidening p w)) where
-      answer_goes : (answer : Answer) → IsJudgedAs all_delays p w answer → (status : Status) (text : List ℕ) → TellsAnswer p answer status text → WideningJudged problem widening old new status text
+    module _ (what : What) (w : Widening) (spelled : HasBytes mid.content widening (SpellsWidening p what w)) where
+      answer_goes : (answer : Answer) → IsJudgedAs what p w answer → (status : Status) (text : List ℕ) → TellsAnswer p answer status text → WideningJudged problem widening old new status text
       answer_goes answers.Yes is status text tells =
           only_goes (WideningJudged problem widening old new) (codes "yes\n") statuses.Done (
             p,
+            what,
             w,
-            both_have old.content problem widening (SpellsProblem p) (SpellsWidening p w) (λ read more. SpellsProblem p read × SpellsWidening p w more × ShowsWidening all_delays p w × IsTrueOf all_delays p w)
-                (λ read more spells spelled. (spells, spelled, is.exact.1 refl, true_shown all_delays p w more spelled (is.exact.1 refl))) has (has_since (SpellsWidening p w) old.content mid.content widening keeps.same spelled),
+            both_have old.content problem widening (SpellsProblem p) (SpellsWidening p what w) (λ read more. SpellsProblem p read × SpellsWidening p what w more × ShowsWidening what p w × IsTrueOf what p w)
+                (λ read more spells spelled. (spells, spelled, is.exact.1 refl, true_shown what p w more spelled (is.exact.1 refl))) has (has_since (SpellsWidening p what w) old.content mid.content widening keeps.same spelled),
             refl,
           ) status text tells
       answer_goes (answers.No part reason) is status text tells =
           only_goes (WideningJudged problem widening old new) (no_line p part reason) statuses.No (
             p,
+            what,
             w,
             part,
             reason,
-            both_have old.content problem widening (SpellsProblem p) (SpellsWidening p w) (λ read more. SpellsProblem p read × SpellsWidening p w more × (ShowsWidening all_delays p w → ⊥) × IsJudged all_delays p w (answers.No part reason))
-                (λ read more spells spelled. (spells, spelled, (λ shows. no_yes (is.exact.0 shows)), is.judged)) has (has_since (SpellsWidening p w) old.content mid.content widening keeps.same spelled),
+            both_have old.content problem widening (SpellsProblem p) (SpellsWidening p what w) (λ read more. SpellsProblem p read × SpellsWidening p what w more × (ShowsWidening what p w → ⊥) × IsJudged what p w (answers.No part reason))
+                (λ read more spells spelled. (spells, spelled, (λ shows. no_yes (is.exact.0 shows)), is.judged)) has (has_since (SpellsWidening p what w) old.content mid.content widening keeps.same spelled),
             refl,
           ) status text tells
         where
           no_yes : answers.No part reason ≡ answers.Yes → ⊥
           no_yes e = absurd cc
 
-      pub judged : (answer : Answer) → IsJudgedAs all_delays p w answer → Prints (TellsAnswer p answer) out out' result → Prints (WideningJudged problem widening old new) out out' result
+      pub judged : (answer : Answer) → IsJudgedAs what p w answer → Prints (TellsAnswer p answer) out out' result → Prints (WideningJudged problem widening old new) out out' result
       judged answer is prints = prints_as (TellsAnswer p answer) (WideningJudged problem widening old new) out out' result (answer_goes answer is) prints

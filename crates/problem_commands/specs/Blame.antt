@@ -1,18 +1,16 @@
 -- What `blame` prints and answers.
-use Rattle.std.specs.Prelude.{◌≡◌, ◌⊎◌, ℕ, ◌+◌, ◌<◌, List, [], ◌∷◌, ◌++◌, length, codes, Option, Some, None, ⊤}
+use Rattle.std.specs.Prelude.{◌≡◌, ◌⊎◌, ℕ, ◌+◌, List, [], ◌∷◌, ◌++◌, codes, Option, Some, None}
 use Rattle.atto.specs.Decimal.{decimal_of}
 use Rattle.line_format.specs.Words.{line_of}
 use Rattle.ports.specs.Files.{FilesTold, HasBytes}
 use Rattle.problem_model.specs.declared.items.Clock.{Clock}
 use Rattle.problem_model.specs.Problem.{ProblemLists}
 use Rattle.problem_model.specs.Bounds.{Times, IsExecution}
-use Rattle.problem.specs.Listing.{listing_of, name_at}
-use Rattle.cert_check.specs.declared.what.Clocks.{Clocks}
 use Rattle.cert_check.specs.declared.what.Clocks.TheVariants as clocks
-use Rattle.cert_check.specs.declared.what.Links.{Links}
 use Rattle.cert_check.specs.declared.what.Links.TheVariants as links
 use Rattle.cert_check.specs.declared.what.What.{What}
 use Rattle.cert_check.specs.declared.what.What.TheVariants.{Delays, Least, Stamps, Rates}
+use Rattle.widen.specs.Named.{what_words}
 use Rattle.widen.specs.Least.{IsLeastWidening, HasNoWidening}
 use Rattle.problem_commands.specs.Texts.{SpellsProblem, IsMissed, IsBadProblem}
 use Rattle.problem_commands.specs.declared.status.Status.{Status}
@@ -33,22 +31,6 @@ abbrev pub candidates : ProblemLists → List What
 candidates p = Delays links.All ∷ other_kinds p
 
 -- ---- lines
--- the names of the clocks that are meant, where those of one clock or of one link are
-abbrev pub clocks_words : ProblemLists → Clocks → List (List ℕ)
-clocks_words p clocks.All = []
-clocks_words p (clocks.One k) = name_at (listing_of p).clock_names k ∷ []
-
-abbrev pub links_words : ProblemLists → Links → List (List ℕ)
-links_words p links.All = []
-links_words p (links.Between from to) = name_at (listing_of p).clock_names from ∷ name_at (listing_of p).clock_names to ∷ []
-
--- the words that name a candidate
-abbrev pub what_words : ProblemLists → What → List (List ℕ)
-what_words p (Delays which) = codes "delays" ∷ links_words p which
-what_words p (Least which) = codes "least" ∷ links_words p which
-what_words p (Stamps which) = codes "stamps" ∷ clocks_words p which
-what_words p (Rates which) = codes "rates" ∷ clocks_words p which
-
 -- what a widening of it is counted in
 abbrev pub unit_of : What → List ℕ
 unit_of (Rates which) = codes "ppb"
@@ -94,18 +76,3 @@ Blamed problem old new Done text = (p : ProblemLists) × HasBytes old.content pr
 Blamed problem old new BadProblem text = IsBadProblem problem old.content text
 Blamed problem old new ReadFault text = IsMissed problem old new × (text ≡ codes "read fault\n")
 Blamed problem old new _ text = ⊥
-
--- the clocks that are meant are clocks of the problem
-abbrev pub NamesClocks : ProblemLists → Clocks → Type 0
-NamesClocks p clocks.All = ⊤
-NamesClocks p (clocks.One k) = k < length p.clocks
-
-abbrev pub NamesLinks : ProblemLists → Links → Type 0
-NamesLinks p links.All = ⊤
-NamesLinks p (links.Between from to) = (from < length p.clocks) × (to < length p.clocks)
-
-abbrev pub NamesWhat : ProblemLists → What → Type 0
-NamesWhat p (Delays which) = NamesLinks p which
-NamesWhat p (Least which) = NamesLinks p which
-NamesWhat p (Stamps which) = NamesClocks p which
-NamesWhat p (Rates which) = NamesClocks p which

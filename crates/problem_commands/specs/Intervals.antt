@@ -13,7 +13,7 @@ use Rattle.queries.specs.Replies.{IsContradictionText}
 use Rattle.problem_commands.specs.Printing.{IsOnlyText}
 use Rattle.problem_commands.specs.Texts.{SpellsProblem, IsMissed, IsBadProblem}
 use Rattle.problem_commands.specs.declared.status.Status.{Status}
-use Rattle.problem_commands.specs.declared.status.Status.TheVariants.{Done, BadProblem, ReadFault, UnknownEvent}
+use Rattle.problem_commands.specs.declared.status.Status.TheVariants.{Done, BadProblem, ReadFault, UnknownName}
 
 -- ---- the text
 -- the line of an interval and an order
@@ -37,7 +37,7 @@ TellsInterval p from to status text = (status ≡ Done) × IsIntervalAndOrderTex
 -- what is printed of the events of two names: their interval, or that a name is no event's
 abbrev pub TellsNamed : ProblemLists → List ℕ → List ℕ → Status → List ℕ → Type 0
 TellsNamed p first second status text = ((from : ℕ) × (to : ℕ) × HasEvent p from first × HasEvent p to second × TellsInterval p from to status text)
-    ⊎ ((IsUnknown p first ⊎ IsUnknown p second) × IsOnlyText (codes "unknown event\n") UnknownEvent status text)
+    ⊎ ((IsUnknown p first ⊎ IsUnknown p second) × IsOnlyText (codes "unknown event\n") UnknownName status text)
 
 -- what `ends` prints, with which status, and when
 abbrev pub IntervalAnswered : List ℕ → List ℕ → List ℕ → FilesTold → FilesTold → Status → List ℕ → Type 0
@@ -45,6 +45,6 @@ IntervalAnswered problem first second old new Done text = (p : ProblemLists) × 
     × HasBytes old.content problem (SpellsProblem p) × HasEvent p from first × HasEvent p to second × IsIntervalAndOrderText p from to text
 IntervalAnswered problem first second old new BadProblem text = IsBadProblem problem old.content text
 IntervalAnswered problem first second old new ReadFault text = IsMissed problem old new × (text ≡ codes "read fault\n")
-IntervalAnswered problem first second old new UnknownEvent text = (p : ProblemLists)
+IntervalAnswered problem first second old new UnknownName text = (p : ProblemLists)
     × HasBytes old.content problem (SpellsProblem p) × (IsUnknown p first ⊎ IsUnknown p second) × (text ≡ codes "unknown event\n")
 IntervalAnswered problem first second old new _ text = ⊥

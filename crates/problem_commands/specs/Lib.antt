@@ -7,5 +7,6 @@ pub mod Obey
 pub mod Solve
 pub mod Intervals
 pub mod Verify
+pub mod WhatWords
 pub mod Widening
 pub mod Blame

@@ -1,5 +1,5 @@
 -- What `widen` and `judge` print and answer.
-use Rattle.std.specs.Prelude.{◌≡◌, ℕ, List, codes}
+use Rattle.std.specs.Prelude.{◌≡◌, ◌⊎◌, ℕ, List, codes}
 use Rattle.ports.specs.Files.{FilesTold, HasBytes}
 use Rattle.line_format.specs.Format.{Answers}
 use Rattle.problem_model.specs.Problem.{ProblemLists}
@@ -7,31 +7,28 @@ use Rattle.problem_model.specs.Nodes.{Reading, AreReadings}
 use Rattle.cert_check.specs.declared.answer.Part.{Part}
 use Rattle.cert_check.specs.declared.answer.Reason.{Reason}
 use Rattle.cert_check.specs.declared.answer.Answer.TheVariants as answers
-use Rattle.cert_check.specs.declared.what.Links.TheVariants as links
 use Rattle.cert_check.specs.declared.what.What.{What}
-use Rattle.cert_check.specs.declared.what.What.TheVariants.{Delays}
 use Rattle.widen.specs.declared.widening.Widening.{Widening}
 use Rattle.widen.specs.declared.widening.Widening.TheVariants.{Least, Never}
+use Rattle.widen.specs.Named.{SaysWhat}
 use Rattle.widen.specs.Least.{IsLeastWidening, HasNoWidening}
 use Rattle.widen.specs.Widening.{ShowsWidening, IsJudged}
 use Rattle.widen.specs.WideningFormat.{widening_format}
 use Rattle.widen.specs.ReadsWidening.{IsWideningTextOf}
 use Rattle.widen.specs.Found.{FindsWidening}
+use Rattle.problem_commands.specs.Printing.{IsOnlyText}
 use Rattle.problem_commands.specs.Refusal.{refused_answer, refused_text_line}
 use Rattle.problem_commands.specs.Texts.{SpellsProblem, IsMissed, IsBadProblem, BothHave, MissesOne}
 use Rattle.problem_commands.specs.Verify.{no_line}
+use Rattle.problem_commands.specs.WhatWords.{SaysNothing}
 use Rattle.problem_commands.specs.declared.refusal.Refusal.{Refusal}
 use Rattle.problem_commands.specs.declared.status.Status.{Status}
-use Rattle.problem_commands.specs.declared.status.Status.TheVariants.{Done, No, BadProblem, BadCert, ReadFault}
+use Rattle.problem_commands.specs.declared.status.Status.TheVariants.{Done, No, BadProblem, BadCert, ReadFault, UnknownName}
 
 -- ---- texts
--- what `widen` widens: all greatest delays
-abbrev pub all_delays : What
-all_delays = Delays links.All
-
--- the text is that of this widening of the problem
-abbrev pub SpellsWidening : ProblemLists → Widening → List ℕ → Type 0
-SpellsWidening p w text = (readings : List Reading) × AreReadings p readings × IsWideningTextOf p readings w text
+-- the text is that of this widening of the problem, of what is named
+abbrev pub SpellsWidening : ProblemLists → What → Widening → List ℕ → Type 0
+SpellsWidening p what w text = (readings : List Reading) × AreReadings p readings × IsWideningTextOf p readings what w text
 
 -- the text is that of no widening of p, for this cause
 abbrev pub RefusesWidening : ProblemLists → List ℕ → Refusal → Type 0
@@ -43,29 +40,35 @@ IsTrueOf what p (Least extra execution cycle) = IsLeastWidening what p extra
 IsTrueOf what p (Never cycle) = HasNoWidening what p
 
 -- ---- widen
--- the text of the least widening, with the earliest execution and the contradiction that show it, or that there is none
-abbrev pub IsLeastText : ProblemLists → List ℕ → Type 0
-IsLeastText p text = (w : Widening) × IsTrueOf all_delays p w × FindsWidening all_delays p w × SpellsWidening p w text
+-- the text of the least widening of this, with the earliest execution and the contradiction that show it, or that there is none
+abbrev pub IsLeastText : ProblemLists → What → List ℕ → Type 0
+IsLeastText p what text = (w : Widening) × IsTrueOf what p w × FindsWidening what p w × SpellsWidening p what w text
 
 -- what is printed of a problem
-abbrev pub TellsLeast : ProblemLists → Status → List ℕ → Type 0
-TellsLeast p status text = (status ≡ Done) × IsLeastText p text
+abbrev pub TellsLeast : ProblemLists → What → Status → List ℕ → Type 0
+TellsLeast p what status text = (status ≡ Done) × IsLeastText p what text
 
--- what `widen` prints, with which status, and when
-abbrev pub WideningFound : List ℕ → FilesTold → FilesTold → Status → List ℕ → Type 0
-WideningFound problem old new Done text = (p : ProblemLists) × HasBytes old.content problem (SpellsProblem p) × IsLeastText p text
-WideningFound problem old new BadProblem text = IsBadProblem problem old.content text
-WideningFound problem old new ReadFault text = IsMissed problem old new × (text ≡ codes "read fault\n")
-WideningFound problem old new _ text = ⊥
+-- the same of what the words name, or that a name is no clock's
+abbrev pub TellsLeastNamed : ProblemLists → List (List ℕ) → Status → List ℕ → Type 0
+TellsLeastNamed p ws status text = ((what : What) × SaysWhat p ws what × TellsLeast p what status text) ⊎ (SaysNothing p ws × IsOnlyText (codes "unknown clock\n") UnknownName status text)
+
+-- what `widen` prints, of what the words name, with which status, and when
+abbrev pub WideningFound : List ℕ → List (List ℕ) → FilesTold → FilesTold → Status → List ℕ → Type 0
+WideningFound problem ws old new Done text = (p : ProblemLists) × (what : What)
+    × HasBytes old.content problem (SpellsProblem p) × SaysWhat p ws what × IsLeastText p what text
+WideningFound problem ws old new BadProblem text = IsBadProblem problem old.content text
+WideningFound problem ws old new ReadFault text = IsMissed problem old new × (text ≡ codes "read fault\n")
+WideningFound problem ws old new UnknownName text = (p : ProblemLists) × HasBytes old.content problem (SpellsProblem p) × SaysNothing p ws × (text ≡ codes "unknown clock\n")
+WideningFound problem ws old new _ text = ⊥
 
 -- ---- judge
--- what `judge` prints, with which status, and when
+-- what `judge` prints of the widening and of what the text names, with which status, and when
 abbrev pub WideningJudged : List ℕ → List ℕ → FilesTold → FilesTold → Status → List ℕ → Type 0
-WideningJudged problem widening old new Done line = (p : ProblemLists) × (w : Widening)
-    × BothHave old.content problem widening (λ text more. SpellsProblem p text × SpellsWidening p w more × ShowsWidening all_delays p w × IsTrueOf all_delays p w)
+WideningJudged problem widening old new Done line = (p : ProblemLists) × (what : What) × (w : Widening)
+    × BothHave old.content problem widening (λ text more. SpellsProblem p text × SpellsWidening p what w more × ShowsWidening what p w × IsTrueOf what p w)
     × (line ≡ codes "yes\n")
-WideningJudged problem widening old new No line = (p : ProblemLists) × (w : Widening) × (part : Part) × (reason : Reason)
-    × BothHave old.content problem widening (λ text more. SpellsProblem p text × SpellsWidening p w more × (ShowsWidening all_delays p w → ⊥) × IsJudged all_delays p w (answers.No part reason))
+WideningJudged problem widening old new No line = (p : ProblemLists) × (what : What) × (w : Widening) × (part : Part) × (reason : Reason)
+    × BothHave old.content problem widening (λ text more. SpellsProblem p text × SpellsWidening p what w more × (ShowsWidening what p w → ⊥) × IsJudged what p w (answers.No part reason))
     × (line ≡ no_line p part reason)
 WideningJudged problem widening old new BadProblem line = IsBadProblem problem old.content line
 WideningJudged problem widening old new BadCert line = (p : ProblemLists) × (refusal : Refusal)

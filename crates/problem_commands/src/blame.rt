@@ -7,16 +7,16 @@ ghost use Rattle.ports.specs.Room.{HasRoomBehind};
 ghost use Rattle.solver.specs.Current.{IsCurrent};
 ghost use Rattle.problem_graph.specs.HeldBounds.{HoldsShortList};
 ghost use Rattle.cert_check.specs.declared.what.What.{What};
+ghost use Rattle.widen.specs.Named.{NamesWhat};
 ghost use Rattle.widen.specs.Least.{HasExecution};
 ghost use Rattle.widen.specs.Found.{FindsWidening};
 ghost use Rattle.problem_commands.specs.Printing.{Prints};
-ghost use Rattle.problem_commands.specs.Blame.{other_kinds, clock_candidates, clocks_words, links_words, what_words, unit_of, healing_words, blame_line, IsHealing, IsBlamedUpTo, IsBlameText, TellsBlame, Blamed, NamesClocks, NamesLinks, NamesWhat};
+ghost use Rattle.problem_commands.specs.Blame.{other_kinds, clock_candidates, unit_of, healing_words, blame_line, IsHealing, IsBlamedUpTo, IsBlameText, TellsBlame, Blamed};
 
 use crate::last_line::{finish, stop};
 use crate::status::Status;
 use crate::texts::problem_in;
 use atto::Steps;
-use cert::push_clock;
 use cert_check::{Clocks, Links, What};
 use ports::fixed_line::{Line, first_word, push_decimal, push_word};
 use ports::{Files, Sink};
@@ -25,51 +25,7 @@ use problem_solver::solve;
 use solver::Solver;
 use std::alloc::{AllocError, Global};
 use std::sync::ledger::Ledger;
-use widen::{Widening, search};
-
-// Appends a word and the clock that is meant, where one is.
-fn push_clocks(line: &mut Line, p: &Problem, kind: &[u8], which: Clocks)
-    requires kind { length kind.now ≤ 48 }
-    requires named { NamesClocks p.now which }
-    requires room { HasRoomBehind line.old.items 147 }
-    ensures appended { (first : List ℕ) (ws : List (List ℕ)) → line.old.items ≡ words (first ∷ ws) → line.new.items ≡ words (first ∷ ws ++ kind.now ∷ clocks_words p.now which) }
-    ensures grown { length line.new.items ≤ length line.old.items + 147 }
-{
-    push_word(line, kind);
-    if let Clocks::One(clock) = which {
-        push_clock(line, p, clock);
-    }
-}
-
-// Appends a word and the clocks of the link that is meant, where one is.
-fn push_links(line: &mut Line, p: &Problem, kind: &[u8], which: Links)
-    requires kind { length kind.now ≤ 48 }
-    requires named { NamesLinks p.now which }
-    requires room { HasRoomBehind line.old.items 147 }
-    ensures appended { (first : List ℕ) (ws : List (List ℕ)) → line.old.items ≡ words (first ∷ ws) → line.new.items ≡ words (first ∷ ws ++ kind.now ∷ links_words p.now which) }
-    ensures grown { length line.new.items ≤ length line.old.items + 147 }
-{
-    push_word(line, kind);
-    if let Links::Between { from, to } = which {
-        push_clock(line, p, from);
-        push_clock(line, p, to);
-    }
-}
-
-// Appends the words that name a candidate.
-fn push_what(line: &mut Line, p: &Problem, what: What)
-    requires named { NamesWhat p.now what }
-    requires room { HasRoomBehind line.old.items 147 }
-    ensures appended { (first : List ℕ) (ws : List (List ℕ)) → line.old.items ≡ words (first ∷ ws) → line.new.items ≡ words (first ∷ ws ++ what_words p.now what) }
-    ensures grown { length line.new.items ≤ length line.old.items + 147 }
-{
-    match what {
-        What::Delays(which) => push_links(line, p, b"delays", which),
-        What::Least(which) => push_links(line, p, b"least", which),
-        What::Stamps(which) => push_clocks(line, p, b"stamps", which),
-        What::Rates(which) => push_clocks(line, p, b"rates", which),
-    }
-}
+use widen::{Widening, push_what, search};
 
 // What a widening of it is counted in.
 fn unit_of(what: What) -> &'static [u8]

@@ -157,7 +157,7 @@ fn between<O: Sink, L: Ledger>(
     ensures { Prints (TellsNamed p.now names.now.first.now names.now.second.now) (O.told out.old) (O.told out.new) result }
 {
     let Some((from, to)) = events_of(p, names) else {
-        return finish(b"unknown event\n", Status::UnknownEvent, out);
+        return finish(b"unknown event\n", Status::UnknownName, out);
     };
     solve_for(alloc, p, from, to, out, steps)
 }

@@ -1,17 +1,17 @@
 // Judges a widening of a problem.
 ghost use Rattle.std.specs.Prelude.{IfOk, IfErr};
 ghost use Rattle.ports.specs.Files.{HasBytes, Keeps};
-ghost use Rattle.widen.specs.declared.widening.Widening.{Widening};
+ghost use Rattle.widen.specs.declared.widening.StatedWidening.{StatedWidening};
 ghost use Rattle.widen.specs.JudgedText.{IsJudgedAs};
 ghost use Rattle.problem_commands.specs.Printing.{Prints};
 ghost use Rattle.problem_commands.specs.Unread.{IsUnread, IsRefusedFor};
-ghost use Rattle.problem_commands.specs.Widening.{all_delays, SpellsWidening, RefusesWidening, WideningJudged};
+ghost use Rattle.problem_commands.specs.Widening.{SpellsWidening, RefusesWidening, WideningJudged};
 
 use crate::last_line::stop;
 use crate::status::Status;
 use crate::texts::{Unread, problem_in, text_in, unread_cert};
 use crate::verify::answer;
-use cert_check::{Answer, Links, What};
+use cert_check::Answer;
 use ports::{Files, Sink};
 use problem::Problem;
 use std::alloc::Global;
@@ -19,12 +19,12 @@ use widen::judge_text;
 
 // What judging the widening answers that a text spells.
 fn judged_of(alloc: Global, p: &Problem, text: &[u8]) -> Result<Answer, Unread>
-    ensures ok { IfOk result (λ answer. (w : Widening) × SpellsWidening p.now w text.now × IsJudgedAs all_delays p.now w answer) }
+    ensures ok { IfOk result (λ answer. (s : StatedWidening) × SpellsWidening p.now s.what s.widening text.now × IsJudgedAs s.what p.now s.widening answer) }
     ensures err { IfErr result (IsRefusedFor (RefusesWidening p.now) text.now) }
 {
     // It tells what the readings of the problem are.
     let _readings = p.readings();
-    match judge_text(alloc, p, What::Delays(Links::All), text) {
+    match judge_text(alloc, p, text) {
         Ok(answer) => Ok(answer),
         Err(error) => Err(unread_cert(error)),
     }
@@ -37,7 +37,7 @@ fn judged_in<F: Files>(
     path: &str,
     p: &Problem,
 ) -> Result<Answer, Unread>
-    ensures ok { IfOk result (λ answer. (w : Widening) × HasBytes (F.told files.old).content path.now (SpellsWidening p.now w) × IsJudgedAs all_delays p.now w answer) }
+    ensures ok { IfOk result (λ answer. (s : StatedWidening) × HasBytes (F.told files.old).content path.now (SpellsWidening p.now s.what s.widening) × IsJudgedAs s.what p.now s.widening answer) }
     ensures err { IfErr result (IsUnread (RefusesWidening p.now) path.now (F.told files.old) (F.told files.new)) }
     ensures keeps { Keeps (F.told files.old) (F.told files.new) }
 {
@@ -49,7 +49,7 @@ fn judged_in<F: Files>(
     }
 }
 
-/// Whether the widening in one file shows what it should of the problem in another.
+/// Whether the widening in one file, of what it names, shows what it should of the problem in another.
 pub fn judge<F: Files, O: Sink>(
     alloc: Global,
     files: &mut F,

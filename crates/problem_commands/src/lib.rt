@@ -12,6 +12,7 @@ pub mod solve;
 pub mod status;
 mod texts;
 pub mod verify;
+pub mod what_words;
 pub mod widening;
 
 pub use status::Status;

@@ -27,8 +27,8 @@ pub enum Status {
     Memory,
     /// The script is too long.
     ScriptLimit,
-    /// The problem has no event of a name in the words.
-    UnknownEvent,
+    /// The problem has no event, or no clock, of a name in the words.
+    UnknownName,
     /// The packets of a script are not merged: a line is refused, or they are too many, or no execution exists, or their link
     /// types differ, or a time is too late.
     NoMerge,
@@ -51,7 +51,7 @@ impl Status {
             Status::WriteFault => 8,
             Status::Memory => 9,
             Status::ScriptLimit => 10,
-            Status::UnknownEvent => 11,
+            Status::UnknownName => 11,
             Status::NoMerge => 12,
         }
     }

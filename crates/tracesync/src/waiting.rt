@@ -6,9 +6,9 @@ use std::rt::Files;
 
 /// A standard stream that is waited for, also where it was set not to wait (`O_NONBLOCK`).
 ///
-/// Where a call would have to wait, the stream is opened anew at its path, without that setting, and used so from then on.
-/// What cannot be opened there, as a socket, answers as it did. A file of the disk never has to be waited for, so no place in
-/// one is lost.
+/// Where a call would have to wait, the stream is opened anew at its path, without that setting, and used so from then
+/// on. What cannot be opened there, as a socket, answers as it did. A file of the disk never has to be waited for, so
+/// no place in one is lost.
 #[derive(Drop)]
 pub struct Waiting<S: Drop, R: Files + Drop> {
     stream: S,
@@ -28,7 +28,8 @@ impl<S: Drop, R: Files + Drop> Waiting<S, R> {
         }
     }
 
-    // Opens the stream anew. To open a FIFO waits for its other end, which may be gone by now, so both are held meanwhile.
+    // Opens the stream anew. To open a FIFO waits for its other end, which may be gone by now, so both are held
+    // meanwhile.
     fn open(&self, how: &OpenOptions) -> io::Result<R::File> {
         let _both_ends = OpenOptions::new()
             .read(true)

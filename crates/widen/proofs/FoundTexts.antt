@@ -1,6 +1,6 @@
 -- What is found is a widening of the problem that shows what it should, and its text is one that is read again.
 use Rattle.std.proofs.Common.{◌≡◌, ◌<◌, ◌≤◌, ◌+◌, ◌-◌, ◌*◌, ◌^◌, ℕ, List, [], ◌∷◌, length, codes, Option, Some, None, Result, Ok, Err, refl, sym, ◌∙◌, ap, subst, arith, inl, inr, length-append}
-use Rattle.std.specs.Prelude.{ℤ, pos, neg_ℤ, ◌⊎◌, All}
+use Rattle.std.specs.Prelude.{ℤ, pos, neg_ℤ, ◌⊎◌, All, IfSome}
 use Rattle.std.specs.List.{flat_map}
 use Rattle.std.proofs.lemmas.List.{length-map}
 use Rattle.std.proofs.lemmas.List.Elements.{All-nil, All-cons}
@@ -8,6 +8,7 @@ use Rattle.atto.specs.Decimal.{decimal_of}
 use Rattle.atto.proofs.DecimalLemmas.{length-decimal_of-le}
 use Rattle.line_format.specs.Words.{line_of}
 use Rattle.line_format.specs.Format.{most_text_bytes}
+use Rattle.line_format.proofs.Lengths.{sized}
 use Rattle.problem_model.specs.declared.items.Message.{Message}
 use Rattle.problem_model.specs.declared.items.Node.{Node}
 use Rattle.problem_model.specs.declared.items.Node.TheVariants as nodes
@@ -38,13 +39,16 @@ use Rattle.cert_check.proofs.Comparing.{declared_back}
 use Rattle.widen.specs.declared.widening.Widening.{Widening}
 use Rattle.widen.specs.declared.widening.Widening.TheVariants.{Least, Never}
 use Rattle.widen.specs.Least.{most_extra, IsLeastWidening, HasNoWidening}
+use Rattle.widen.specs.declared.widening.StatedWidening.{StatedWidening}
+use Rattle.widen.specs.Named.{NamesWhat, IsKindOfClocks, IsKindOfLinks, AreStated, stated_words}
 use Rattle.widen.specs.Widening.{HasCycle, IsWideningOf, ShowsBelow, ShowsWidening}
-use Rattle.widen.specs.WideningText.{widening_head, least_words, cycle_lines, widening_lines, widening_text}
+use Rattle.widen.specs.WideningText.{widening_head, least_word, least_words, least_line, cycle_lines, widening_lines, widening_text}
 use Rattle.widen.specs.ReadsWidening.{FitsCycle, FitsWidening, IsWideningTextOf}
 use Rattle.widen.specs.JudgedText.{JudgesText}
 use Rattle.widen.specs.Found.{IsRunAt, IsCycleAt, IsFoundBelow, FindsWidening}
 use Rattle.widen.proofs.Solved.{wider}
 use Rattle.widen.proofs.Rising.{shown_least, shown_never}
+use Rattle.widen.proofs.Naming.{what_spelled}
 use Rattle.widen.proofs.Readable.{read_again}
 
 -- ---- bounds of the widened problem are bounds of the problem
@@ -87,7 +91,31 @@ pub never_found : (what : What) (p : ProblemLists) (cycle : List Step) → Finds
 never_found what p cycle found = shown_never what p cycle found.contradiction
 
 -- ---- texts
-module _ (what : What) (p : ProblemLists) (readings : List Reading) (lawful : IsProblem p) (are : AreReadings p readings) where
+-- a kind has 6 bytes at most, and a name 32
+clocks_kind_short : (kind : List ℕ) → IsKindOfClocks kind → length kind ≤ 6
+clocks_kind_short kind (inl is) = rw is (omega arith)
+clocks_kind_short kind (inr is) = rw is (omega arith)
+
+links_kind_short : (kind : List ℕ) → IsKindOfLinks kind → length kind ≤ 6
+links_kind_short kind (inl is) = rw is (omega arith)
+links_kind_short kind (inr is) = rw is (omega arith)
+
+stated_short : (ws : List (List ℕ)) → AreStated ws → sized ws ≤ 73
+stated_short [] stated = omega arith
+stated_short (kind ∷ []) (inl k) = let short = clocks_kind_short kind k in omega (arith, short)
+stated_short (kind ∷ []) (inr k) = let short : length kind ≤ 5 = rw k (omega arith) in omega (arith, short)
+stated_short (kind ∷ clock ∷ []) stated =
+    let short = clocks_kind_short kind stated.0 in
+    let name = stated.1.short in
+    omega (arith, short, name)
+stated_short (kind ∷ from ∷ to ∷ []) stated =
+    let short = links_kind_short kind stated.0 in
+    let one = stated.1.short in
+    let two = stated.2.short in
+    omega (arith, short, one, two)
+stated_short (kind ∷ from ∷ to ∷ other ∷ more) stated = absurd stated
+
+module _ (what : What) (p : ProblemLists) (readings : List Reading) (lawful : IsProblem p) (are : AreReadings p readings) (named : NamesWhat p what) where
   steps_fit : (e : ℕ) (cycle : List Step) → IsCycleAt what p e cycle → FitsSteps cycle
   steps_fit e cycle found = (weights_fit cycle found.small, (let few = few_nodes p readings lawful are in let short = found.short readings are in omega (arith, few, short)))
 
@@ -112,43 +140,48 @@ module _ (what : What) (p : ProblemLists) (readings : List Reading) (lawful : Is
   cycle_text extra None found = omega arith
   cycle_text extra (Some cycle) found = steps_text (extra - 1) cycle found.1
 
-  least_line_short : (extra : ℕ) → extra < 2 ^ 62 → length (line_of (least_words (Some extra))) ≤ 26
-  least_line_short extra within =
-      let size : length (line_of (least_words (Some extra))) ≡ 5 + 1 + (length (decimal_of extra) + 1 + 0) = line_size (codes "least") (decimal_of extra ∷ []) in
-      let digits = length-decimal_of-le 19 extra (omega arith) (let below : 2 ^ 62 ≤ 10 ^ 19 = omega arith in omega (arith, within)) in
-      omega (arith, size, digits)
+  word_short : (extra : Option ℕ) → IfSome extra (λ e. e < 2 ^ 62) → length (least_word extra) ≤ 19
+  word_short None within = omega arith
+  word_short (Some e) within = length-decimal_of-le 19 e (omega arith) (let below : 2 ^ 62 ≤ 10 ^ 19 = omega arith in omega (arith, within))
 
-  lines_short : (w : Widening) → FindsWidening what p w → length (widening_lines p (nodes_of p readings) w) ≤ most_nodes * 249 + 32
+  least_line_short : (extra : Option ℕ) → IfSome extra (λ e. e < 2 ^ 62) → length (least_line p what extra) ≤ 99
+  least_line_short extra within =
+      let size : length (least_line p what extra) ≡ 5 + 1 + (length (least_word extra) + 1 + sized (stated_words p what)) = line_size (codes "least") (least_word extra ∷ stated_words p what) in
+      omega (arith, size, word_short extra within, stated_short (stated_words p what) (what_spelled p lawful what named))
+
+  lines_short : (w : Widening) → FindsWidening what p w → length (widening_lines p (nodes_of p readings) what w) ≤ most_nodes * 249 + 105
   lines_short (Least extra execution cycle) found =
       let values = values_short p lawful readings execution are (values_up_to execution (wider execution found.1.small)) in
       let few = few_nodes p readings lawful are in
-      omega (arith, three (line_of (least_words (Some extra))) (value_lines p (nodes_of p readings) execution) (cycle_lines p cycle), least_line_short extra found.0, values, few, cycle_text extra cycle found.2)
+      omega (arith, three (least_line p what (Some extra)) (value_lines p (nodes_of p readings) execution) (cycle_lines p cycle), least_line_short (Some extra) found.0, values, few, cycle_text extra cycle found.2)
   lines_short (Never cycle) found =
-      let size : length (line_of (least_words None)) ≡ 5 + 1 + (4 + 1 + 0) = line_size (codes "least") (codes "none" ∷ []) in
-      omega (arith, length-append (line_of (least_words None)) (cycle_lines p (Some cycle)), size, steps_text most_extra cycle found)
+      omega (arith, length-append (least_line p what None) (cycle_lines p (Some cycle)), least_line_short None tt, steps_text most_extra cycle found)
 
-  text_short : (w : Widening) → FindsWidening what p w → length (widening_text p (nodes_of p readings) w) ≤ most_text_bytes
+  text_short : (w : Widening) → FindsWidening what p w → length (widening_text p (nodes_of p readings) what w) ≤ most_text_bytes
   text_short w found =
       let head : length (line_of widening_head) ≡ 8 + 1 + (1 + 1 + 0) = line_size (codes "widening") (codes "1" ∷ []) in
       let end : length (line_of (codes "end" ∷ [])) ≡ 3 + 1 + 0 = line_size (codes "end") [] in
-      omega (arith, three (line_of widening_head) (widening_lines p (nodes_of p readings) w) (line_of (codes "end" ∷ [])), head, end, lines_short w found)
+      omega (arith, three (line_of widening_head) (widening_lines p (nodes_of p readings) what w) (line_of (codes "end" ∷ [])), head, end, lines_short w found)
 
-  pub text_of : (w : Widening) → FindsWidening what p w → IsWideningTextOf p readings w (widening_text p (nodes_of p readings) w)
-  text_of w found = (text_short w found, widening_of what p w found, fits w found, refl)
+  pub text_of : (w : Widening) → FindsWidening what p w → IsWideningTextOf p readings what w (widening_text p (nodes_of p readings) what w)
+  text_of w found = (text_short w found, widening_of what p w found, fits w found, refl, named)
 
   -- ---- what is written is read again and judged
-  same_widening : (v w : Widening) → ◌≡◌ {A = Result Widening CertError} (Ok v) (Ok w) → v ≡ w
-  same_widening v w is = cc
+  same_stated : (v w : StatedWidening) → ◌≡◌ {A = Result StatedWidening CertError} (Ok v) (Ok w) → v ≡ w
+  same_stated v w is = cc
 
-  same_error : (e : CertError) → ◌≡◌ {A = Result Widening CertError} (Err e) (Err errors.Memory) → e ≡ errors.Memory
+  same_error : (e : CertError) → ◌≡◌ {A = Result StatedWidening CertError} (Err e) (Err errors.Memory) → e ≡ errors.Memory
   same_error e is = cc
 
-  pub accepted : (w : Widening) (result : Result judged.Answer CertError) → FindsWidening what p w → JudgesText what p (widening_text p (nodes_of p readings) w) result → (result ≡ Ok Yes) ⊎ (result ≡ Err errors.Memory)
-  accepted w (Ok answer) found (v, reads, is) = elim (read_again p readings lawful are w (widening_text p (nodes_of p readings) w) (Ok v) (text_of w found) (reads readings are)) [
-    | inl same ↦ inl (ap Ok (is.exact.0 (subst (ShowsWidening what p) (sym (same_widening v w same)) (shows what p w found))))
+  abbrev stated : Widening → StatedWidening
+  stated w = record { what = what; widening = w }
+
+  pub accepted : (w : Widening) (result : Result judged.Answer CertError) → FindsWidening what p w → JudgesText p (widening_text p (nodes_of p readings) what w) result → (result ≡ Ok Yes) ⊎ (result ≡ Err errors.Memory)
+  accepted w (Ok answer) found (v, reads, is) = elim (read_again p readings lawful are (stated w) (widening_text p (nodes_of p readings) what w) (Ok v) (text_of w found) (reads readings are)) [
+    | inl same ↦ inl (ap Ok (is.exact.0 (subst (λ (s : StatedWidening). ShowsWidening s.what p s.widening) (sym (same_stated v (stated w) same)) (shows what p w found))))
     | inr other ↦ absurd cc
   ]
-  accepted w (Err e) found reads = elim (read_again p readings lawful are w (widening_text p (nodes_of p readings) w) (Err e) (text_of w found) (reads readings are)) [
+  accepted w (Err e) found reads = elim (read_again p readings lawful are (stated w) (widening_text p (nodes_of p readings) what w) (Err e) (text_of w found) (reads readings are)) [
     | inl other ↦ absurd cc
     | inr same ↦ inr (ap Err (same_error e same))
   ]

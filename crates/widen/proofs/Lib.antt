@@ -1,5 +1,7 @@
 pub mod Rising
 pub mod JudgedOnce
+pub mod Naming
+pub mod Looking
 pub mod Lines
 pub mod Words
 pub mod Growing

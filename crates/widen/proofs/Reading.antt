@@ -21,17 +21,20 @@ use Rattle.cert.proofs.CertGrowing.{values_none}
 use Rattle.cert.proofs.PartTaking.{no_steps}
 use Rattle.cert.proofs.CertTaking.{none_fit, no_value}
 use Rattle.cert.proofs.CertReading.{whole_from, values_from}
+use Rattle.cert_check.specs.declared.what.What.{What}
 use Rattle.widen.specs.declared.widening.Widening.{Widening}
+use Rattle.widen.specs.declared.widening.StatedWidening.{StatedWidening}
 use Rattle.widen.specs.declared.widening.Widening.TheVariants.{Least, Never}
+use Rattle.widen.specs.Named.{NamesWhat, stated_words, StatesWhat, AreStated}
 use Rattle.widen.specs.Widening.{IsWideningOf}
-use Rattle.widen.specs.WideningText.{widening_head, least_words, cycle_lines, widening_text}
+use Rattle.widen.specs.WideningText.{widening_head, least_words, least_line, cycle_lines, widening_text}
 use Rattle.widen.specs.WideningFormat.{WideningLine, WideningSaid, line_words, IsSpelled, IsWhole, MayBegin, MayRun, MayStand, AreTimes, IsSound, said, said_lines, widening_format}
 use Rattle.widen.specs.WideningFormat.WideningLine.{LeastLine, PartLine}
 use Rattle.widen.specs.WideningFormat.WideningSaid.{NoneSaid, Said}
-use Rattle.widen.specs.ReadsWidening.{FitsWidening, IsWideningTextOf, RefusesText}
-use Rattle.widen.specs.declared.read.Stated.{Stated}
-use Rattle.widen.specs.declared.read.Stated.TheVariants as stated
-use Rattle.widen.specs.declared.read.Stated.TheVariants.{Of, TooMuch}
+use Rattle.widen.specs.ReadsWidening.{FitsWidening, IsWideningTextOf, RefusesText, ReadsWideningOf, ReadsWideningOver}
+use Rattle.widen.specs.declared.read.Extra.{Extra}
+use Rattle.widen.specs.declared.read.Extra.TheVariants as extras
+use Rattle.widen.specs.declared.read.Extra.TheVariants.{Of, TooMuch}
 use Rattle.widen.specs.ReadsLines.{IsStated, IsStatedIn, IsBehind}
 use Rattle.widen.proofs.Lines.{widening_lacks}
 use Rattle.widen.proofs.Growing.{GrowsTo, least_begins, cycle_begins}
@@ -101,16 +104,16 @@ module _ (p : ProblemLists) (readings : List Reading) where
   abbrev Words : List (List ℕ) → WideningLine → Type 0
   Words ws line = line_words line ≡ ws
 
-  pub only_cycle : (line : WideningLine) → MayStand p readings (Said None [] None) line → line_words line ≡ codes "cycle" ∷ []
-  only_cycle line may = before_cycle p readings (Words (codes "cycle" ∷ [])) None [] line (λ begins. refl) (λ l runs. absurd runs) may
+  pub only_cycle : (what : What) (line : WideningLine) → MayStand p readings (Said what None [] None) line → line_words line ≡ codes "cycle" ∷ []
+  only_cycle what line may = before_cycle p readings (Words (codes "cycle" ∷ [])) what None [] line (λ begins. refl) (λ l runs. absurd runs) may
 
-  pub only_cycle_above : (extra : ℕ) (vs : List ℤ) → 0 < extra → IsWhole p readings vs → (line : WideningLine) → MayStand p readings (Said (Some extra) vs None) line → line_words line ≡ codes "cycle" ∷ []
-  only_cycle_above extra vs above whole line may =
-      before_cycle p readings (Words (codes "cycle" ∷ [])) (Some extra) vs line (λ begins. refl) (λ l runs. absurd (let end = whole_end extra vs whole l runs in omega (arith, above, end.1))) may
+  pub only_cycle_above : (what : What) (extra : ℕ) (vs : List ℤ) → 0 < extra → IsWhole p readings vs → (line : WideningLine) → MayStand p readings (Said what (Some extra) vs None) line → line_words line ≡ codes "cycle" ∷ []
+  only_cycle_above what extra vs above whole line may =
+      before_cycle p readings (Words (codes "cycle" ∷ [])) what (Some extra) vs line (λ begins. refl) (λ l runs. absurd (let end = whole_end extra vs whole l runs in omega (arith, above, end.1))) may
 
-  pub only_end : (vs : List ℤ) → IsWhole p readings vs → (line : WideningLine) → MayStand p readings (Said (Some 0) vs None) line → line_words line ≡ codes "end" ∷ []
-  only_end vs whole line may =
-      before_cycle p readings (Words (codes "end" ∷ [])) (Some 0) vs line (λ begins. absurd (omega (arith, begins.0))) (λ l runs. ap (λ (x : ExecutionLine). line_words (PartLine (NodeLine x))) (whole_end 0 vs whole l runs).0) may
+  pub only_end : (what : What) (vs : List ℤ) → IsWhole p readings vs → (line : WideningLine) → MayStand p readings (Said what (Some 0) vs None) line → line_words line ≡ codes "end" ∷ []
+  only_end what vs whole line may =
+      before_cycle p readings (Words (codes "end" ∷ [])) what (Some 0) vs line (λ begins. absurd (omega (arith, begins.0))) (λ l runs. ap (λ (x : ExecutionLine). line_words (PartLine (NodeLine x))) (whole_end 0 vs whole l runs).0) may
 
   -- ---- faults of lines
   kind_refuses : (text : List ℕ) (kind : FaultKind) (n : ℕ) → Answers format text (Faulty kind n) → RefusesText p readings text (error_at (lines.Fault kind) n)
@@ -130,70 +133,81 @@ module _ (p : ProblemLists) (readings : List Reading) where
   line_on text rest body after s t n b parts r sound = behind_of text after t (n + 1) (stands_on format widening_lacks text rest body after s t n (stands_of text rest s n b) parts r sound)
 
   -- ---- a cycle begins
-  pub cycle_on : (text rest more : List ℕ) (extra : Option ℕ) (vs : List ℤ) (n : ℕ) → Behind text rest (Said extra vs None) n → rest ≡ line_of (codes "cycle" ∷ []) ++ more → MayBegin p readings extra vs → Behind text more (Said extra vs (Some [])) (n + 1)
-  cycle_on text rest more extra vs n b is may = word_on text rest more (Said extra vs None) (Said extra vs (Some [])) n (codes "cycle" ∷ []) b is (cycle_begins p readings extra vs) (b.sound.0, (may, no_steps p))
+  pub cycle_on : (text rest more : List ℕ) (what : What) (extra : Option ℕ) (vs : List ℤ) (n : ℕ) → Behind text rest (Said what extra vs None) n → rest ≡ line_of (codes "cycle" ∷ []) ++ more → MayBegin p readings extra vs
+      → Behind text more (Said what extra vs (Some [])) (n + 1)
+  cycle_on text rest more what extra vs n b is may = word_on text rest more (Said what extra vs None) (Said what extra vs (Some [])) n (codes "cycle" ∷ []) b is (cycle_begins p readings what extra vs) (b.sound.0, (may, no_steps p), b.sound.2)
 
   -- ---- the text of what is said is that of the widening
-  text_is : (w : Widening) → whole_text format (said w) ≡ widening_text p (nodes_of p readings) w
-  text_is (Least extra execution cycle) = refl
-  text_is (Never cycle) = ap (λ (t : List ℕ). (line_of widening_head ++ (t ++ cycle_lines p (Some cycle))) ++ line_of (codes "end" ∷ []))
-      (ap (λ (v : List ℕ). line_of (least_words None) ++ v) (values_none p readings) ∙ append-nil (line_of (least_words None)))
+  text_is : (what : What) (w : Widening) → whole_text format (said what w) ≡ widening_text p (nodes_of p readings) what w
+  text_is what (Least extra execution cycle) = refl
+  text_is what (Never cycle) = ap (λ (t : List ℕ). (line_of widening_head ++ (t ++ cycle_lines p (Some cycle))) ++ line_of (codes "end" ∷ []))
+      (ap (λ (v : List ℕ). least_line p what None ++ v) (values_none p readings) ∙ append-nil (least_line p what None))
 
   module _ (are : AreReadings p readings) where
-    sound_from : (w : Widening) → IsWideningOf p w → FitsWidening w → IsSound p readings (said w) × MayStand p readings (said w) (PartLine (NodeLine EndLine))
-    sound_from (Least extra execution None) of fits = (((fits.0, values_from p readings are execution of.0 fits.1), tt), (of.1, whole_from p readings are execution of.0))
-    sound_from (Least extra execution (Some cycle)) of fits =
-        (((fits.0, values_from p readings are execution of.0 fits.1), ((of.1.0, whole_from p readings are execution of.0), record { declared = of.1.1; weights = fits.2.0; few = fits.2.1 })), tt)
-    sound_from (Never cycle) of fits = ((refl, (tt, record { declared = of; weights = fits.0; few = fits.1 })), tt)
+    sound_from : (what : What) (w : Widening) → IsWideningOf p w → FitsWidening w → NamesWhat p what → IsSound p readings (said what w) × MayStand p readings (said what w) (PartLine (NodeLine EndLine))
+    sound_from what (Least extra execution None) of fits named = (((fits.0, values_from p readings are execution of.0 fits.1), tt, named), (of.1, whole_from p readings are execution of.0))
+    sound_from what (Least extra execution (Some cycle)) of fits named =
+        (((fits.0, values_from p readings are execution of.0 fits.1), ((of.1.0, whole_from p readings are execution of.0), record { declared = of.1.1; weights = fits.2.0; few = fits.2.1 }), named), tt)
+    sound_from what (Never cycle) of fits named = ((refl, (tt, record { declared = of; weights = fits.0; few = fits.1 }), named), tt)
 
-    sound_back : (w : Widening) → IsSound p readings (said w) → MayStand p readings (said w) (PartLine (NodeLine EndLine)) → IsWideningOf p w × FitsWidening w
-    sound_back (Least extra execution None) sound may = (((readings, are, may.1), may.0), (sound.0.0, sound.0.1.fit, tt))
-    sound_back (Least extra execution (Some cycle)) sound may =
+    named_back : (what : What) (w : Widening) → IsSound p readings (said what w) → NamesWhat p what
+    named_back what (Least extra execution cycle) sound = sound.2
+    named_back what (Never cycle) sound = sound.2
+
+    sound_back : (what : What) (w : Widening) → IsSound p readings (said what w) → MayStand p readings (said what w) (PartLine (NodeLine EndLine)) → IsWideningOf p w × FitsWidening w
+    sound_back what (Least extra execution None) sound may = (((readings, are, may.1), may.0), (sound.0.0, sound.0.1.fit, tt))
+    sound_back what (Least extra execution (Some cycle)) sound may =
         (((readings, are, sound.1.0.1), (sound.1.0.0, sound.1.1.declared)), (sound.0.0, sound.0.1.fit, (sound.1.1.weights, sound.1.1.few)))
-    sound_back (Never cycle) sound may = (sound.1.1.declared, (sound.1.1.weights, sound.1.1.few))
+    sound_back what (Never cycle) sound may = (sound.1.1.declared, (sound.1.1.weights, sound.1.1.few))
 
-    pub found_is : (w : Widening) (text : List ℕ) → IsWideningTextOf p readings w text ↔ Answers format text (Found (said w))
-    found_is w text = (
-      λ is. let s = sound_from w is.1 is.2 in (is.0, s.0, s.1, is.3 ∙ sym (text_is w)),
-      λ found. let s = sound_back w found.1 found.2 in (found.0, s.0, s.1, found.3 ∙ text_is w),
+    pub found_is : (what : What) (w : Widening) (text : List ℕ) → IsWideningTextOf p readings what w text ↔ Answers format text (Found (said what w))
+    found_is what w text = (
+      λ is. let s = sound_from what w is.1 is.2 is.4 in (is.0, s.0, s.1, is.3 ∙ sym (text_is what w)),
+      λ found. let s = sound_back what w found.1 found.2 in (found.0, s.0, s.1, found.3 ∙ text_is what w, named_back what w found.1),
     )
 
 -- ---- the line of the widening
 module _ (p : ProblemLists) (readings : List Reading) (text whole body rest : List ℕ) (b : IsBehind p readings text whole NoneSaid 2) (parts : cut 10 whole ≡ Some (body, rest)) where
-  pub least_on : (extra : Option ℕ) → body ≡ words (least_words extra) → AreTimes p readings extra [] → IsBehind p readings text rest (Said extra [] None) 3
-  least_on extra is times =
-      line_on p readings text whole body rest NoneSaid (Said extra [] None) 2 b parts (subst (λ (w : List ℕ). GrowsTo p readings NoneSaid (Said extra [] None) (w ++ 10 ∷ [])) (sym is) (least_begins p readings extra)) (times, tt)
+  pub least_on : (what : What) (extra : Option ℕ) → body ≡ words (least_words extra (stated_words p what)) → AreTimes p readings extra [] → NamesWhat p what → IsBehind p readings text rest (Said what extra [] None) 3
+  least_on what extra is times named =
+      line_on p readings text whole body rest NoneSaid (Said what extra [] None) 2 b parts (subst (λ (w : List ℕ). GrowsTo p readings NoneSaid (Said what extra [] None) (w ++ 10 ∷ [])) (sym is) (least_begins p readings what extra)) (times, tt, named)
 
-  pub least_over : (extra : ℕ) → body ≡ words (least_words (Some extra)) → 2 ^ 62 ≤ extra → Answers (widening_format p readings) text (Faulty kinds.Range 2)
-  least_over extra is over =
-      fault_refuses p readings text whole body rest NoneSaid NoneSaid 2 (lines.Fault kinds.Range) b parts (LeastLine (Some extra), tt, tt, is, (tt, (λ less. let under : extra < 2 ^ 62 = less in omega (arith, under, over))))
+  pub least_over : (named : List (List ℕ)) (extra : ℕ) → AreStated named → (what : What) → StatesWhat p named what → body ≡ words (least_words (Some extra) named) → 2 ^ 62 ≤ extra → Answers (widening_format p readings) text (Faulty kinds.Range 2)
+  least_over named extra stated what says is over =
+      fault_refuses p readings text whole body rest NoneSaid NoneSaid 2 (lines.Fault kinds.Range) b parts
+      (LeastLine (Some extra) named, tt, stated, is, ((what, says), (λ less. let under : extra < 2 ^ 62 = less in omega (arith, under, over))))
 
-  pub not_least : ((extra : Option ℕ) → body ≡ words (least_words extra) → ⊥) → Answers (widening_format p readings) text (Faulty kinds.Syntax 2)
+  pub not_named : (named : List (List ℕ)) (extra : Option ℕ) → AreStated named → ((what : What) → StatesWhat p named what → ⊥) → body ≡ words (least_words extra named) → Answers (widening_format p readings) text (Faulty kinds.Name 2)
+  not_named named extra stated none is = fault_refuses p readings text whole body rest NoneSaid NoneSaid 2 (lines.Fault kinds.Name) b parts (LeastLine extra named, tt, stated, is, (λ names. none names.0 names.1))
+
+  pub not_least : ((extra : Option ℕ) (named : List (List ℕ)) → AreStated named → body ≡ words (least_words extra named) → ⊥) → Answers (widening_format p readings) text (Faulty kinds.Syntax 2)
   not_least none = fault_refuses p readings text whole body rest NoneSaid NoneSaid 2 (lines.Fault kinds.Syntax) b parts misspelled
     where
       misspelled : (line : WideningLine) → MayStand p readings NoneSaid line → IsSpelled line → body ≡ words (line_words line) → ⊥
-      misspelled (LeastLine extra) may spelled is = none extra is
+      misspelled (LeastLine extra named) may spelled is = none extra named spelled is
       misspelled (PartLine line) may spelled is = may
 
 -- what the line states
 pub stated_in : (p : ProblemLists) (readings : List Reading) (text whole body rest : List ℕ) → IsBehind p readings text whole NoneSaid 2 → cut 10 whole ≡ Some (body, rest)
-    → (s : Stated) (extra : Option ℕ) → body ≡ words (least_words extra) → IsStated extra s → IsStatedIn p readings text rest s
-stated_in p readings text whole body rest b parts (Of e) extra is (same, within) =
-    least_on p readings text whole body rest b parts (Some e) (is ∙ ap (λ (o : Option ℕ). words (least_words o)) same) (within, none_fit p readings (length (nodes_of p readings)))
-stated_in p readings text whole body rest b parts TooMuch extra is (e, same, over) =
-    least_over p readings text whole body rest b parts e (is ∙ ap (λ (o : Option ℕ). words (least_words o)) same) over
-stated_in p readings text whole body rest b parts stated.Never extra is same =
-    least_on p readings text whole body rest b parts None (is ∙ ap (λ (o : Option ℕ). words (least_words o)) same) refl
+    → (named : List (List ℕ)) → AreStated named → (what : What) → StatesWhat p named what
+    → (s : Extra) (extra : Option ℕ) → body ≡ words (least_words extra named) → IsStated extra s → IsStatedIn p readings text rest what s
+stated_in p readings text whole body rest b parts named stated what says (Of e) extra is (same, within) =
+    least_on p readings text whole body rest b parts what (Some e) (is ∙ ap (λ (o : Option ℕ). words (least_words o named)) same ∙ ap (λ (ws : List (List ℕ)). words (least_words (Some e) ws)) says.1) (within, none_fit p readings (length (nodes_of p readings))) says.0
+stated_in p readings text whole body rest b parts named stated what says TooMuch extra is (e, same, over) =
+    least_over p readings text whole body rest b parts named e stated what says (is ∙ ap (λ (o : Option ℕ). words (least_words o named)) same) over
+stated_in p readings text whole body rest b parts named stated what says extras.Never extra is same =
+    least_on p readings text whole body rest b parts what None (is ∙ ap (λ (o : Option ℕ). words (least_words o named)) same ∙ ap (λ (ws : List (List ℕ)). words (least_words None ws)) says.1) refl says.0
 
 pub first_line : (p : ProblemLists) (readings : List Reading) (rest : List ℕ) → length (line_of widening_head ++ rest) ≤ most_text_bytes → IsBehind p readings (line_of widening_head ++ rest) rest NoneSaid 2
 first_line p readings rest short = record { is = refl; number = refl; sound = tt; short = short }
 
 -- ---- a widening of 0
-pub zero_on : (p : ProblemLists) (readings : List Reading) (text rest : List ℕ) (extra n m : ℕ) (values : List ℤ) → extra ≡ 0 → n ≡ m → IsBehind p readings text rest (Said (Some extra) values None) n → IsBehind p readings text rest (Said (Some 0) values None) m
-zero_on p readings text rest extra n m values zero same b =
-    subst (λ (k : ℕ). IsBehind p readings text rest (Said (Some 0) values None) k) same (subst (λ (e : ℕ). IsBehind p readings text rest (Said (Some e) values None) n) zero b)
+pub zero_on : (p : ProblemLists) (readings : List Reading) (text rest : List ℕ) (what : What) (extra n m : ℕ) (values : List ℤ) → extra ≡ 0 → n ≡ m → IsBehind p readings text rest (Said what (Some extra) values None) n
+    → IsBehind p readings text rest (Said what (Some 0) values None) m
+zero_on p readings text rest what extra n m values zero same b =
+    subst (λ (k : ℕ). IsBehind p readings text rest (Said what (Some 0) values None) k) same (subst (λ (e : ℕ). IsBehind p readings text rest (Said what (Some e) values None) n) zero b)
 
-pub zero_found : (p : ProblemLists) (readings : List Reading) → AreReadings p readings → (text : List ℕ) (extra : ℕ) (values : List ℤ) → extra ≡ 0 → Answers (widening_format p readings) text (Found (Said (Some 0) values None))
-    → IsWideningTextOf p readings (Least extra values None) text
-zero_found p readings are text extra values zero found =
-    (found_is p readings are (Least extra values None) text).1 (subst (λ (e : ℕ). Answers (widening_format p readings) text (Found (Said (Some e) values None))) (sym zero) found)
+pub zero_found : (p : ProblemLists) (readings : List Reading) → AreReadings p readings → (text : List ℕ) (what : What) (extra : ℕ) (values : List ℤ) → extra ≡ 0 → Answers (widening_format p readings) text (Found (Said what (Some 0) values None))
+    → IsWideningTextOf p readings what (Least extra values None) text
+zero_found p readings are text what extra values zero found =
+    (found_is p readings are what (Least extra values None) text).1 (subst (λ (e : ℕ). Answers (widening_format p readings) text (Found (Said what (Some e) values None))) (sym zero) found)

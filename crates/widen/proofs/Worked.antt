@@ -6,7 +6,8 @@ use Rattle.problem_model.specs.Problem.{ProblemLists}
 use Rattle.problem_model.specs.Nodes.{Reading, nodes_of}
 use Rattle.cert.specs.declared.chain.Step.{Step}
 use Rattle.cert_check.specs.declared.what.Links.TheVariants as links
-use Rattle.cert_check.specs.declared.what.What.TheVariants.{Delays}
+use Rattle.cert_check.specs.declared.what.Clocks.TheVariants as clocks
+use Rattle.cert_check.specs.declared.what.What.TheVariants.{Delays, Stamps}
 use Rattle.cert_check.specs.Widened.{widened}
 use Rattle.widen.specs.declared.widening.Widening.TheVariants.{Least, Never}
 use Rattle.widen.specs.WideningText.{widening_text}
@@ -43,7 +44,7 @@ cycle = record { bound = DelayMost 0 2; weight = pos 22000000000 } ∷ record { 
 abbrev times : List ℤ
 times = pos 0 ∷ pos 95000000000 ∷ pos 22000000000 ∷ pos 72000000000 ∷ pos 0 ∷ pos 95000000000 ∷ pos 22000000000 ∷ pos 72000000000 ∷ []
 
-worked-text : widening_text (contradicting (Some 20)) (nodes_of (contradicting (Some 20)) readings) (Least 3 times (Some cycle)) ≡ codes "widening 1\nleast 3\nevent a#1 0.000000000\nevent a#2 95.000000000\nevent b#1 22.000000000\nevent b#2 72.000000000\nreading a 100 0.000000000\nreading a 195 95.000000000\nreading b 250 22.000000000\nreading b 300 72.000000000\ncycle\nstep delay-most a#1 b#1 22.000000000\nstep early b#1 0.000000000\nstep span-most b 250 300 50.000000000\nstep late b#2 0.000000000\nstep delay-most b#2 a#2 22.000000000\nstep early a#2 0.000000000\nstep span-least a 100 195 -95.000000000\nstep late a#1 0.000000000\nend\n"
+worked-text : widening_text (contradicting (Some 20)) (nodes_of (contradicting (Some 20)) readings) (Delays links.All) (Least 3 times (Some cycle)) ≡ codes "widening 1\nleast 3\nevent a#1 0.000000000\nevent a#2 95.000000000\nevent b#1 22.000000000\nevent b#2 72.000000000\nreading a 100 0.000000000\nreading a 195 95.000000000\nreading b 250 22.000000000\nreading b 300 72.000000000\ncycle\nstep delay-most a#1 b#1 22.000000000\nstep early b#1 0.000000000\nstep span-most b 250 300 50.000000000\nstep late b#2 0.000000000\nstep delay-most b#2 a#2 22.000000000\nstep early a#2 0.000000000\nstep span-least a 100 195 -95.000000000\nstep late a#1 0.000000000\nend\n"
 worked-text = refl
 
 -- ---- a least delay that no widening heals
@@ -58,5 +59,5 @@ hopeless = record {
 abbrev closed : List Step
 closed = record { bound = DelayLeast 0 1; weight = neg_ℤ (pos 20000000000) } ∷ record { bound = Early 0; weight = pos 0 } ∷ record { bound = SpanMost 0 0 10; weight = pos 10000000000 } ∷ record { bound = Late 1; weight = pos 0 } ∷ []
 
-worked-never : widening_text hopeless (nodes_of hopeless ((0, 0) ∷ (0, 10) ∷ [])) (Never closed) ≡ codes "widening 1\nleast none\ncycle\nstep delay-least p q -20.000000000\nstep early p 0.000000000\nstep span-most c 0 10 10.000000000\nstep late q 0.000000000\nend\n"
+worked-never : widening_text hopeless (nodes_of hopeless ((0, 0) ∷ (0, 10) ∷ [])) (Stamps clocks.All) (Never closed) ≡ codes "widening 1\nleast none stamps\ncycle\nstep delay-least p q -20.000000000\nstep early p 0.000000000\nstep span-most c 0 10 10.000000000\nstep late q 0.000000000\nend\n"
 worked-never = refl

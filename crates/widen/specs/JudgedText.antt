@@ -6,6 +6,7 @@ use Rattle.cert_check.specs.declared.answer.Answer.{Answer}
 use Rattle.cert_check.specs.declared.answer.Answer.TheVariants.{Yes}
 use Rattle.cert_check.specs.declared.what.What.{What}
 use Rattle.widen.specs.declared.widening.Widening.{Widening}
+use Rattle.widen.specs.declared.widening.StatedWidening.{StatedWidening}
 use Rattle.widen.specs.Widening.{ShowsWidening, IsJudged}
 use Rattle.widen.specs.ReadsWidening.{ReadsWidening}
 
@@ -14,7 +15,7 @@ pub record IsJudgedAs (what : What) (p : ProblemLists) (w : Widening) (answer : 
   pub judged : IsJudged what p w answer
   pub exact : ShowsWidening what p w ↔ (answer ≡ Yes)
 
--- what judging the widening answers that the text spells, or why the text spells none
-abbrev pub JudgesText : What → ProblemLists → List ℕ → Result Answer CertError → Type 0
-JudgesText what p text (Ok answer) = (w : Widening) × ReadsWidening p text (Ok w) × IsJudgedAs what p w answer
-JudgesText what p text (Err e) = ReadsWidening p text (Err e)
+-- what judging the widening answers that the text spells, of what it names, or why the text spells none
+abbrev pub JudgesText : ProblemLists → List ℕ → Result Answer CertError → Type 0
+JudgesText p text (Ok answer) = (s : StatedWidening) × ReadsWidening p text (Ok s) × IsJudgedAs s.what p s.widening answer
+JudgesText p text (Err e) = ReadsWidening p text (Err e)

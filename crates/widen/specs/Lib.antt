@@ -1,5 +1,7 @@
 pub mod Least
 pub mod Widening
+pub mod Named
+pub mod NamedWords
 pub mod WideningText
 pub mod WideningFormat
 pub mod ReadsWidening

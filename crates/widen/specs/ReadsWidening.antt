@@ -10,9 +10,12 @@ use Rattle.cert.specs.declared.chain.Step.{Step}
 use Rattle.cert.specs.declared.error.CertError.{CertError}
 use Rattle.cert.specs.declared.error.CertError.TheVariants as errors
 use Rattle.cert.specs.ReadsCert.{FitsSteps}
+use Rattle.cert_check.specs.declared.what.What.{What}
 use Rattle.widen.specs.declared.widening.Widening.{Widening}
+use Rattle.widen.specs.declared.widening.StatedWidening.{StatedWidening}
 use Rattle.widen.specs.declared.widening.Widening.TheVariants.{Least, Never}
 use Rattle.widen.specs.Widening.{IsWideningOf}
+use Rattle.widen.specs.Named.{NamesWhat}
 use Rattle.widen.specs.WideningText.{widening_text}
 use Rattle.widen.specs.WideningFormat.{widening_format}
 
@@ -27,9 +30,9 @@ FitsWidening (Least extra execution cycle) = (extra < 2 ^ 62) × All FitsUnits e
 FitsWidening (Never cycle) = FitsSteps cycle
 
 module _ (p : ProblemLists) (readings : List Reading) where
-  -- the text is that of this widening of the problem
-  abbrev pub IsWideningTextOf : Widening → List ℕ → Type 0
-  IsWideningTextOf w text = (length text ≤ most_text_bytes) × IsWideningOf p w × FitsWidening w × (text ≡ widening_text p (nodes_of p readings) w)
+  -- the text is that of this widening of the problem, of what is named
+  abbrev pub IsWideningTextOf : What → Widening → List ℕ → Type 0
+  IsWideningTextOf what w text = (length text ≤ most_text_bytes) × IsWideningOf p w × FitsWidening w × (text ≡ widening_text p (nodes_of p readings) what w) × NamesWhat p what
 
   -- why the text is that of no widening: its first fault
   abbrev pub RefusesText : List ℕ → CertError → Type 0
@@ -40,11 +43,16 @@ module _ (p : ProblemLists) (readings : List Reading) where
   RefusesText text errors.Long = most_text_bytes < length text
   RefusesText text errors.Memory = Unit {0}
 
-  -- the widening that the text spells, or why it spells none
-  abbrev pub ReadsWideningOver : List ℕ → Result Widening CertError → Type 0
-  ReadsWideningOver text (Ok w) = IsWideningTextOf w text
+  -- the widening of this that the text spells, or why it spells none
+  abbrev pub ReadsWideningOf : What → List ℕ → Result Widening CertError → Type 0
+  ReadsWideningOf what text (Ok w) = IsWideningTextOf what w text
+  ReadsWideningOf what text (Err e) = RefusesText text e
+
+  -- the widening that the text spells, and of what, or why it spells none
+  abbrev pub ReadsWideningOver : List ℕ → Result StatedWidening CertError → Type 0
+  ReadsWideningOver text (Ok s) = IsWideningTextOf s.what s.widening text
   ReadsWideningOver text (Err e) = RefusesText text e
 
 -- what reading a text answers: as above, over the readings of p, of which there is one list
-abbrev pub ReadsWidening : ProblemLists → List ℕ → Result Widening CertError → Type 0
+abbrev pub ReadsWidening : ProblemLists → List ℕ → Result StatedWidening CertError → Type 0
 ReadsWidening p text result = (readings : List Reading) → AreReadings p readings → ReadsWideningOver p readings text result

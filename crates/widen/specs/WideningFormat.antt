@@ -12,47 +12,50 @@ use Rattle.cert.specs.ExecutionFormat.ExecutionLine.{EndLine}
 use Rattle.cert.specs.CertificateFormat as certificates
 use Rattle.cert.specs.CertificateFormat.{CertLine, Said as CertSaid, AreSteps, cert_words, certificate_format}
 use Rattle.cert.specs.CertificateFormat.CertLine.{CycleLine, NodeLine}
+use Rattle.cert_check.specs.declared.what.What.{What}
 use Rattle.widen.specs.declared.widening.Widening.{Widening}
 use Rattle.widen.specs.declared.widening.Widening.TheVariants.{Least, Never}
-use Rattle.widen.specs.WideningText.{widening_head, least_words, cycle_lines}
+use Rattle.widen.specs.Named.{NamesWhat, StatesWhat, AreStated}
+use Rattle.widen.specs.WideningText.{widening_head, least_words, least_line, cycle_lines}
 
 -- ---- lines
--- the line of the widening, with a number as large as it is written, or one that stands in certificates too
+-- the line of the widening, with a number as large as it is written and the words that name what is widened, or one that stands
+-- in certificates too
 pub data WideningLine : Type 0 where
-  LeastLine : Option ℕ → WideningLine
+  LeastLine : Option ℕ → List (List ℕ) → WideningLine
   PartLine : CertLine → WideningLine
 
 -- the words of a line
 abbrev pub line_words : WideningLine → List (List ℕ)
-line_words (LeastLine extra) = least_words extra
+line_words (LeastLine extra named) = least_words extra named
 line_words (PartLine line) = cert_words line
 
 -- each name is spelled as one of its kind
 abbrev pub IsSpelled : WideningLine → Type 0
-IsSpelled (LeastLine extra) = Unit {0}
+IsSpelled (LeastLine extra named) = AreStated named
 IsSpelled (PartLine line) = certificates.IsSpelled line
 
 -- each number is in its range
 abbrev pub NumbersFit : WideningLine → Type 0
-NumbersFit (LeastLine extra) = IfSome extra (λ e. e < 2 ^ 62)
+NumbersFit (LeastLine extra named) = IfSome extra (λ e. e < 2 ^ 62)
 NumbersFit (PartLine line) = certificates.NumbersFit line
 
 -- ---- what is said so far
--- nothing; or a widening or none, so many real times, and the steps of a cycle where it has begun
+-- nothing; or what is widened, by how much or that none heals, so many real times, and the steps of a cycle where it has begun
 pub data WideningSaid : Type 0 where
   NoneSaid : WideningSaid
-  Said : Option ℕ → List ℤ → Option (List Step) → WideningSaid
+  Said : What → Option ℕ → List ℤ → Option (List Step) → WideningSaid
 
--- what a widening says
-abbrev pub said : Widening → WideningSaid
-said (Least extra execution cycle) = Said (Some extra) execution cycle
-said (Never cycle) = Said None [] (Some cycle)
+-- what a widening of this says
+abbrev pub said : What → Widening → WideningSaid
+said what (Least extra execution cycle) = Said what (Some extra) execution cycle
+said what (Never cycle) = Said what None [] (Some cycle)
 
 -- what is said last, as a certificate says it: real times, or the steps of a cycle
 abbrev pub part_of : WideningSaid → CertSaid
 part_of NoneSaid = CertSaid.NoneSaid
-part_of (Said extra values None) = CertSaid.RunSaid values
-part_of (Said extra values (Some steps)) = CertSaid.CycleSaid steps
+part_of (Said what extra values None) = CertSaid.RunSaid values
+part_of (Said what extra values (Some steps)) = CertSaid.CycleSaid steps
 
 -- the number of lines of a cycle, and of all lines behind the head
 abbrev pub cycle_size : Option (List Step) → ℕ
@@ -61,7 +64,7 @@ cycle_size (Some steps) = 1 + length steps
 
 abbrev pub said_size : WideningSaid → ℕ
 said_size NoneSaid = 0
-said_size (Said extra values cycle) = 1 + length values + cycle_size cycle
+said_size (Said what extra values cycle) = 1 + length values + cycle_size cycle
 
 -- ---- the format
 module _ (p : ProblemLists) (readings : List Reading) where
@@ -82,20 +85,20 @@ module _ (p : ProblemLists) (readings : List Reading) where
 
   -- the line may follow: the widening first, then its real times, then its cycle
   abbrev pub MayStand : WideningSaid → WideningLine → Type 0
-  MayStand NoneSaid (LeastLine extra) = Unit {0}
-  MayStand (Said extra values None) (PartLine (NodeLine line)) = MayRun extra values line
-  MayStand (Said extra values None) (PartLine CycleLine) = MayBegin extra values
-  MayStand (Said extra values (Some steps)) (PartLine line) = certificates.MayStand p readings (CertSaid.CycleSaid steps) line
+  MayStand NoneSaid (LeastLine extra named) = Unit {0}
+  MayStand (Said what extra values None) (PartLine (NodeLine line)) = MayRun extra values line
+  MayStand (Said what extra values None) (PartLine CycleLine) = MayBegin extra values
+  MayStand (Said what extra values (Some steps)) (PartLine line) = certificates.MayStand p readings (CertSaid.CycleSaid steps) line
   MayStand state line = ⊥
 
-  -- the node whose turn it is; a bound that the problem declares
+  -- clocks of the problem; the node whose turn it is; a bound that the problem declares
   abbrev pub NamesFit : WideningSaid → WideningLine → Type 0
-  NamesFit state (LeastLine extra) = Unit {0}
+  NamesFit state (LeastLine extra named) = (what : What) × StatesWhat p named what
   NamesFit state (PartLine line) = (certificate_format p readings).NamesFit (part_of state) line
 
   -- there is room for one more step
   abbrev pub HasRoom : WideningSaid → WideningLine → Type 0
-  HasRoom state (LeastLine extra) = Unit {0}
+  HasRoom state (LeastLine extra named) = Unit {0}
   HasRoom state (PartLine line) = (certificate_format p readings).HasRoom (part_of state) line
 
   -- real times are at most those of all nodes, and there are none where no widening heals
@@ -111,12 +114,12 @@ module _ (p : ProblemLists) (readings : List Reading) where
   -- all so far is lawful
   abbrev pub IsSound : WideningSaid → Type 0
   IsSound NoneSaid = Unit {0}
-  IsSound (Said extra values cycle) = AreTimes extra values × IsCycle extra values cycle
+  IsSound (Said what extra values cycle) = AreTimes extra values × IsCycle extra values cycle × NamesWhat p what
 
   -- the lines behind the head
   abbrev pub said_lines : WideningSaid → List ℕ
   said_lines NoneSaid = []
-  said_lines (Said extra values cycle) = line_of (least_words extra) ++ value_lines p (nodes_of p readings) values ++ cycle_lines p cycle
+  said_lines (Said what extra values cycle) = least_line p what extra ++ value_lines p (nodes_of p readings) values ++ cycle_lines p cycle
 
   -- the format of widening texts
   abbrev pub widening_format : Format WideningSaid WideningLine

@@ -13,8 +13,10 @@ ghost use Rattle.cert_check.specs.declared.answer.Answer.TheVariants as answers;
 ghost use Rattle.cert_check.specs.declared.what.What.{What};
 ghost use Rattle.cert_check.specs.Widened.{widened};
 ghost use Rattle.widen.specs.declared.widening.Widening.{Widening};
+ghost use Rattle.widen.specs.declared.widening.StatedWidening.{StatedWidening};
 ghost use Rattle.widen.specs.declared.widening.Widening.TheVariants.{Least, Never};
 ghost use Rattle.widen.specs.Least.{IsLeastWidening, HasNoWidening};
+ghost use Rattle.widen.specs.Named.{NamesWhat};
 ghost use Rattle.widen.specs.Widening.{IsWideningOf, ShowsWidening, IsJudged};
 ghost use Rattle.widen.specs.WideningText.{widening_text};
 ghost use Rattle.widen.specs.WideningFormat.{WideningSaid, said, widening_format};
@@ -38,9 +40,9 @@ pub fn least()
 /// numbers are in range is read, where it is not too long, as that widening, and is refused for want of memory alone.
 pub fn widening_answers_are_one()
     ensures one { (p : ProblemLists) (readings : List Reading) (text : List ℕ) (a b : Answer WideningSaid) → IsProblem p → AreReadings p readings → Answers (widening_format p readings) text a → Answers (widening_format p readings) text b → a ≡ b }
-    ensures found { (p : ProblemLists) (readings : List Reading) (text : List ℕ) (w : Widening) → AreReadings p readings → (IsWideningTextOf p readings w text ↔ Answers (widening_format p readings) text (Found (said w))) }
-    ensures read_again { (p : ProblemLists) (readings : List Reading) (text : List ℕ) (w : Widening) (result : Result Widening CertError) → IsProblem p → AreReadings p readings → IsWideningTextOf p readings w text
-        → ReadsWideningOver p readings text result → (result ≡ Ok w) ⊎ (result ≡ Err errors.Memory) }
+    ensures found { (p : ProblemLists) (readings : List Reading) (text : List ℕ) (what : What) (w : Widening) → AreReadings p readings → (IsWideningTextOf p readings what w text ↔ Answers (widening_format p readings) text (Found (said what w))) }
+    ensures read_again { (p : ProblemLists) (readings : List Reading) (text : List ℕ) (s : StatedWidening) (result : Result StatedWidening CertError) → IsProblem p → AreReadings p readings
+        → IsWideningTextOf p readings s.what s.widening text → ReadsWideningOver p readings text result → (result ≡ Ok s) ⊎ (result ≡ Err errors.Memory) }
 {}
 
 /// A law, which does nothing when it runs: what `least_widening` finds is the least widening, or there is none. Its text is not
@@ -48,8 +50,8 @@ pub fn widening_answers_are_one()
 pub fn found_widenings()
     ensures least { (what : What) (p : ProblemLists) (extra : ℕ) (execution : List ℤ) (cycle : Option (List Step)) → FindsWidening what p (Least extra execution cycle) → IsLeastWidening what p extra }
     ensures never { (what : What) (p : ProblemLists) (cycle : List Step) → FindsWidening what p (Never cycle) → HasNoWidening what p }
-    ensures fits { (what : What) (p : ProblemLists) (readings : List Reading) (w : Widening) → IsProblem p → AreReadings p readings → FindsWidening what p w
-        → IsWideningTextOf p readings w (widening_text p (nodes_of p readings) w) }
-    ensures accepted { (what : What) (p : ProblemLists) (readings : List Reading) (w : Widening) (result : Result judged.Answer CertError) → IsProblem p → AreReadings p readings → FindsWidening what p w
-        → JudgesText what p (widening_text p (nodes_of p readings) w) result → (result ≡ Ok answers.Yes) ⊎ (result ≡ Err errors.Memory) }
+    ensures fits { (what : What) (p : ProblemLists) (readings : List Reading) (w : Widening) → IsProblem p → AreReadings p readings → NamesWhat p what → FindsWidening what p w
+        → IsWideningTextOf p readings what w (widening_text p (nodes_of p readings) what w) }
+    ensures accepted { (what : What) (p : ProblemLists) (readings : List Reading) (w : Widening) (result : Result judged.Answer CertError) → IsProblem p → AreReadings p readings → NamesWhat p what → FindsWidening what p w
+        → JudgesText p (widening_text p (nodes_of p readings) what w) result → (result ≡ Ok answers.Yes) ⊎ (result ≡ Err errors.Memory) }
 {}

@@ -12,6 +12,7 @@ mod cycles;
 mod found;
 mod known;
 mod laws;
+mod named;
 mod read;
 mod text;
 mod tried;
@@ -22,8 +23,9 @@ mod write;
 
 pub use found::{Found, least_widening, search, widening_in_rounds};
 pub use laws::{found_widenings, least, widening_answers_are_one};
+pub use named::{NamedClocks, NamedLinks, NamedWhat, push_what, what_of};
 pub use read::read_widening;
 pub use text::judge_text;
 pub use verdicts::judge;
-pub use widening::Widening;
+pub use widening::{StatedWidening, Widening};
 pub use write::write_widening;

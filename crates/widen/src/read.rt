@@ -1,5 +1,5 @@
 // The text of a widening, line by line.
-ghost use Rattle.std.specs.Prelude.{◌≡◌, ◌≤◌, ◌<◌, ◌+◌, ◌++◌, [], ℕ, ℤ, List, length, Option, Some, None, IfSome, IfNone, OnOk};
+ghost use Rattle.std.specs.Prelude.{◌≡◌, ◌≤◌, ◌<◌, ◌+◌, ◌++◌, [], ◌∷◌, ℕ, ℤ, List, length, Option, Some, None, IfSome, IfNone, OnOk};
 ghost use Rattle.line_format.specs.Words.{words, line_of};
 ghost use Rattle.line_format.specs.Format.{most_text_bytes};
 ghost use Rattle.problem_model.specs.Problem.{ProblemLists};
@@ -7,60 +7,106 @@ ghost use Rattle.problem_model.specs.Nodes.{Reading, nodes_of};
 ghost use Rattle.problem_model.specs.Limits.{most_steps};
 ghost use Rattle.problem.specs.Listing.{all_readings};
 ghost use Rattle.cert.specs.ExecutionFormat.{AreValues};
+ghost use Rattle.cert_check.specs.declared.what.What.{What};
+ghost use Rattle.widen.specs.Named.{AreStated};
+ghost use Rattle.widen.specs.NamedWords.{stated_named};
 ghost use Rattle.widen.specs.WideningText.{widening_head, least_word, least_words};
 ghost use Rattle.widen.specs.WideningFormat.{IsWhole};
 ghost use Rattle.widen.specs.WideningFormat.WideningSaid.{Said};
-ghost use Rattle.widen.specs.ReadsWidening.{ReadsWidening, ReadsWideningOver};
-ghost use Rattle.widen.specs.ReadsLines.{IsStated, IsBehind, IsStatedIn, ReadsTime, ReadsTimes, ReadsEnd, ReadsCycle};
+ghost use Rattle.widen.specs.ReadsWidening.{ReadsWidening, ReadsWideningOf, ReadsWideningOver};
+ghost use Rattle.widen.specs.ReadsLines.{IsStated, IsBehind, IsSecondOf, IsStatedIn, ReadsTime, ReadsTimes, ReadsEnd, ReadsCycle};
 
-use crate::widening::Widening;
+use crate::named::{NamedLinks, NamedWhat, named_by, what_of};
+use crate::widening::{StatedWidening, Widening};
 use atto::{Nano, NumFault, read_decimal};
 use cert::take_part::{take_in_cycle, take_value};
 use cert::{CertError, Chain, Execution, behind, error_at};
+use cert_check::What;
 use line_format::{MOST_BYTES, Taken, cut};
 use problem::Problem;
 use std::alloc::Global;
 
-/// What the line of the widening says.
+/// By how much is widened.
 #[derive(Clone, Copy)]
-pub enum Stated {
-    /// So many ns.
+pub enum Extra {
+    /// By so many ns, or parts per billion of rates.
     Of(Nano),
-    /// 2^62 ns or more.
+    /// By 2^62 or more.
     TooMuch,
-    /// That no widening heals.
+    /// No widening heals.
     Never,
 }
 
+/// What the line of the widening says.
+#[derive(Clone, Copy)]
+pub struct Stated {
+    /// By how much.
+    pub extra: Extra,
+    /// What is widened.
+    pub named: NamedWhat,
+}
+
 // The widening that a word spells.
-fn extra_of(word: &[u8]) -> Option<Stated>
+fn extra_of(word: &[u8]) -> Option<Extra>
     ensures some { IfSome result (λ s. (extra : Option ℕ) × (word.now ≡ least_word extra) × IsStated extra s) }
     ensures none { IfNone result ((extra : Option ℕ) → word.now ≡ least_word extra → ⊥) }
 {
     if word == b"none".as_slice() {
-        return Some(Stated::Never);
+        return Some(Extra::Never);
     }
     match read_decimal(word) {
         Ok(extra) => match Nano::new(extra) {
-            Some(extra) => Some(Stated::Of(extra)),
-            None => Some(Stated::TooMuch),
+            Some(extra) => Some(Extra::Of(extra)),
+            None => Some(Extra::TooMuch),
         },
-        Err(NumFault::Range) => Some(Stated::TooMuch),
+        Err(NumFault::Range) => Some(Extra::TooMuch),
         Err(NumFault::Spelling) => None,
     }
 }
 
-// The widening of a line `least E` or `least none`.
+// What a number with the words behind it says.
+fn stated_of(extra: &[u8], named: &[u8]) -> Option<Stated>
+    ensures some { IfSome result (λ s. (extra' : Option ℕ) × (extra.now ≡ least_word extra') × IsStated extra' s.extra
+        × (kind : List ℕ) × (names : List (List ℕ)) × AreStated (kind ∷ names) × (stated_named s.named ≡ kind ∷ names) × (named.now ≡ words (kind ∷ names))) }
+    ensures none { IfNone result ((extra' : Option ℕ) (kind : List ℕ) (names : List (List ℕ)) → AreStated (kind ∷ names) → extra.now ≡ least_word extra' → named.now ≡ words (kind ∷ names) → ⊥) }
+{
+    let extra = extra_of(extra)?;
+    let named = named_by(named)?;
+    Some(Stated { extra, named })
+}
+
+// What a number without words behind it says.
+fn stated_alone(extra: &[u8]) -> Option<Stated>
+    ensures some { IfSome result (λ s. (extra' : Option ℕ) × (extra.now ≡ least_word extra') × IsStated extra' s.extra × (stated_named s.named ≡ [])) }
+    ensures none { IfNone result ((extra' : Option ℕ) → extra.now ≡ least_word extra' → ⊥) }
+{
+    let extra = extra_of(extra)?;
+    let named = NamedWhat::Delays(NamedLinks::All);
+    Some(Stated { extra, named })
+}
+
+// What the words behind the first one of the line say.
+fn stated_in(rest: &[u8]) -> Option<Stated>
+    ensures some { IfSome result (λ s. (extra : Option ℕ) × (rest.now ≡ words (least_word extra ∷ stated_named s.named)) × IsStated extra s.extra × AreStated (stated_named s.named)) }
+    ensures none { IfNone result ((extra : Option ℕ) (named : List (List ℕ)) → AreStated named → rest.now ≡ words (least_word extra ∷ named) → ⊥) }
+{
+    match cut(b' ', rest) {
+        Some((extra, named)) => stated_of(extra, named),
+        None => stated_alone(rest),
+    }
+}
+
+// What a line `least E` or `least none` says, with the words behind it.
 fn stated_by(body: &[u8]) -> Option<Stated>
-    ensures some { IfSome result (λ s. (extra : Option ℕ) × (body.now ≡ words (least_words extra)) × IsStated extra s) }
-    ensures none { IfNone result ((extra : Option ℕ) → body.now ≡ words (least_words extra) → ⊥) }
+    ensures some { IfSome result (λ s. (extra : Option ℕ) × (body.now ≡ words (least_words extra (stated_named s.named))) × IsStated extra s.extra × AreStated (stated_named s.named)) }
+    ensures none { IfNone result ((extra : Option ℕ) (named : List (List ℕ)) → AreStated named → body.now ≡ words (least_words extra named) → ⊥) }
 {
     match cut(b' ', body) {
-        Some((word, extra)) => {
+        Some((word, rest)) => {
             if word != b"least".as_slice() {
                 return None;
             }
-            extra_of(extra)
+            stated_in(rest)
         }
         None => None,
     }
@@ -69,8 +115,8 @@ fn stated_by(body: &[u8]) -> Option<Stated>
 // The steps of a cycle up to the end of the text, where the first line has this number.
 fn read_steps(alloc: Global, p: &Problem, lines: &[u8], first: u32) -> Result<Chain, CertError>
     requires { first ≤ most_steps }
-    ensures { (extra : Option ℕ) (values : List ℤ) (text : List ℕ) → IsBehind p.now (all_readings p.now.events) text lines.now (Said extra values (Some [])) first
-        → ReadsCycle p.now (all_readings p.now.events) text extra values result }
+    ensures { (what : What) (extra : Option ℕ) (values : List ℤ) (text : List ℕ) → IsBehind p.now (all_readings p.now.events) text lines.now (Said what extra values (Some [])) first
+        → ReadsCycle p.now (all_readings p.now.events) text what extra values result }
 {
     let mut cycle = Chain::new(alloc);
     let mut rest = lines;
@@ -95,8 +141,8 @@ fn read_steps(alloc: Global, p: &Problem, lines: &[u8], first: u32) -> Result<Ch
 fn next_time<'a>(p: &Problem, times: &mut Execution, lines: &'a [u8]) -> Result<&'a [u8], CertError>
     requires values { AreValues (length (nodes_of p.now (all_readings p.now.events))) times.old }
     requires more { IsWhole p.now (all_readings p.now.events) times.old → ⊥ }
-    ensures read { (extra : ℕ) (text : List ℕ) → IsBehind p.now (all_readings p.now.events) text lines.now (Said (Some extra) times.old None) (length times.old + 3)
-        → ReadsTime p.now (all_readings p.now.events) text extra times.new result }
+    ensures read { (what : What) (extra : ℕ) (text : List ℕ) → IsBehind p.now (all_readings p.now.events) text lines.now (Said what (Some extra) times.old None) (length times.old + 3)
+        → ReadsTime p.now (all_readings p.now.events) text what extra times.new result }
     ensures values { AreValues (length (nodes_of p.now (all_readings p.now.events))) times.new }
     ensures one { OnOk result (length times.new ≡ length times.old + 1) }
 {
@@ -117,8 +163,8 @@ fn read_times<'a>(
     lines: &'a [u8],
 ) -> Result<&'a [u8], CertError>
     requires { times.old ≡ [] }
-    ensures { (extra : ℕ) (text : List ℕ) → IsBehind p.now (all_readings p.now.events) text lines.now (Said (Some extra) [] None) 3
-        → ReadsTimes p.now (all_readings p.now.events) text extra times.new result }
+    ensures { (what : What) (extra : ℕ) (text : List ℕ) → IsBehind p.now (all_readings p.now.events) text lines.now (Said what (Some extra) [] None) 3
+        → ReadsTimes p.now (all_readings p.now.events) text what extra times.new result }
 {
     let count = p.events().len() + p.readings().len();
     let mut rest = lines;
@@ -134,8 +180,8 @@ fn read_times<'a>(
 // The end of the text behind the real times, where the widening is 0.
 fn read_end(lines: &[u8], line: u32) -> Result<(), CertError>
     requires { line ≤ most_steps }
-    ensures { (p : ProblemLists) (readings : List Reading) (values : List ℤ) (text : List ℕ) → IsBehind p readings text lines.now (Said (Some 0) values None) line → IsWhole p readings values
-        → ReadsEnd p readings text values result }
+    ensures { (p : ProblemLists) (readings : List Reading) (what : What) (values : List ℤ) (text : List ℕ) → IsBehind p readings text lines.now (Said what (Some 0) values None) line → IsWhole p readings values
+        → ReadsEnd p readings text what values result }
 {
     match behind(b"end", lines) {
         Some(rest) => {
@@ -157,8 +203,8 @@ fn read_rest(
     execution: Execution,
     lines: &[u8],
 ) -> Result<Widening, CertError>
-    ensures { (text : List ℕ) → IsBehind p.now (all_readings p.now.events) text lines.now (Said (Some extra) execution None) (length execution + 3) → IsWhole p.now (all_readings p.now.events) execution
-        → ReadsWideningOver p.now (all_readings p.now.events) text result }
+    ensures { (what : What) (text : List ℕ) → IsBehind p.now (all_readings p.now.events) text lines.now (Said what (Some extra) execution None) (length execution + 3) → IsWhole p.now (all_readings p.now.events) execution
+        → ReadsWideningOf p.now (all_readings p.now.events) what text result }
 {
     // It tells what the readings of the problem are.
     let _ = p.readings();
@@ -186,9 +232,9 @@ fn read_rest(
     }
 }
 
-// What follows the line of a widening by so many ns.
+// What follows the line of a widening by so much.
 fn read_least(alloc: Global, p: &Problem, extra: Nano, lines: &[u8]) -> Result<Widening, CertError>
-    ensures { (text : List ℕ) → IsBehind p.now (all_readings p.now.events) text lines.now (Said (Some extra) [] None) 3 → ReadsWideningOver p.now (all_readings p.now.events) text result }
+    ensures { (what : What) (text : List ℕ) → IsBehind p.now (all_readings p.now.events) text lines.now (Said what (Some extra) [] None) 3 → ReadsWideningOf p.now (all_readings p.now.events) what text result }
 {
     let mut execution = Execution::new(alloc);
     match read_times(p, &mut execution, lines) {
@@ -199,7 +245,7 @@ fn read_least(alloc: Global, p: &Problem, extra: Nano, lines: &[u8]) -> Result<W
 
 // What follows the line that no widening heals.
 fn read_never(alloc: Global, p: &Problem, lines: &[u8]) -> Result<Widening, CertError>
-    ensures { (text : List ℕ) → IsBehind p.now (all_readings p.now.events) text lines.now (Said None [] None) 3 → ReadsWideningOver p.now (all_readings p.now.events) text result }
+    ensures { (what : What) (text : List ℕ) → IsBehind p.now (all_readings p.now.events) text lines.now (Said what None [] None) 3 → ReadsWideningOf p.now (all_readings p.now.events) what text result }
 {
     // It tells what the readings of the problem are.
     let _ = p.readings();
@@ -212,24 +258,57 @@ fn read_never(alloc: Global, p: &Problem, lines: &[u8]) -> Result<Widening, Cert
     }
 }
 
-// What follows the line that states the widening.
+// What follows the line that says by how much.
+fn read_widened(
+    alloc: Global,
+    p: &Problem,
+    extra: Extra,
+    lines: &[u8],
+) -> Result<Widening, CertError>
+    ensures { (what : What) (text : List ℕ) → IsStatedIn p.now (all_readings p.now.events) text lines.now what extra → ReadsWideningOf p.now (all_readings p.now.events) what text result }
+{
+    match extra {
+        Extra::Of(extra) => read_least(alloc, p, extra, lines),
+        Extra::TooMuch => Err(CertError::Range(2)),
+        Extra::Never => read_never(alloc, p, lines),
+    }
+}
+
+// What follows the line that states the widening of this.
+fn read_of(
+    alloc: Global,
+    p: &Problem,
+    what: What,
+    extra: Extra,
+    lines: &[u8],
+) -> Result<StatedWidening, CertError>
+    ensures { (text : List ℕ) → IsStatedIn p.now (all_readings p.now.events) text lines.now what extra → ReadsWideningOver p.now (all_readings p.now.events) text result }
+{
+    match read_widened(alloc, p, extra, lines) {
+        Ok(widening) => Ok(StatedWidening { what, widening }),
+        Err(error) => Err(error),
+    }
+}
+
+// What follows the line that says this.
 fn read_stated(
     alloc: Global,
     p: &Problem,
     stated: Stated,
     lines: &[u8],
-) -> Result<Widening, CertError>
-    ensures { (text : List ℕ) → IsStatedIn p.now (all_readings p.now.events) text lines.now stated → ReadsWideningOver p.now (all_readings p.now.events) text result }
+) -> Result<StatedWidening, CertError>
+    requires { AreStated (stated_named stated.named) }
+    ensures { (extra : Option ℕ) (body text : List ℕ) → IsSecondOf p.now (all_readings p.now.events) text body lines.now → body ≡ words (least_words extra (stated_named stated.named)) → IsStated extra stated.extra
+        → ReadsWideningOver p.now (all_readings p.now.events) text result }
 {
-    match stated {
-        Stated::Of(extra) => read_least(alloc, p, extra, lines),
-        Stated::TooMuch => Err(CertError::Range(2)),
-        Stated::Never => read_never(alloc, p, lines),
+    match what_of(p, stated.named) {
+        Some(what) => read_of(alloc, p, what, stated.extra, lines),
+        None => Err(CertError::Name(2)),
     }
 }
 
 // The lines behind the head, which is line 1.
-fn read_lines(alloc: Global, p: &Problem, lines: &[u8]) -> Result<Widening, CertError>
+fn read_lines(alloc: Global, p: &Problem, lines: &[u8]) -> Result<StatedWidening, CertError>
     requires { length (line_of widening_head ++ lines.now) ≤ most_text_bytes }
     ensures { ReadsWideningOver p.now (all_readings p.now.events) (line_of widening_head ++ lines.now) result }
 {
@@ -242,7 +321,7 @@ fn read_lines(alloc: Global, p: &Problem, lines: &[u8]) -> Result<Widening, Cert
     }
 }
 
-fn read_text(alloc: Global, p: &Problem, text: &[u8]) -> Result<Widening, CertError>
+fn read_text(alloc: Global, p: &Problem, text: &[u8]) -> Result<StatedWidening, CertError>
     ensures { ReadsWideningOver p.now (all_readings p.now.events) text.now result }
 {
     if text.len() > MOST_BYTES {
@@ -254,12 +333,12 @@ fn read_text(alloc: Global, p: &Problem, text: &[u8]) -> Result<Widening, CertEr
     }
 }
 
-/// The widening of a problem that a text spells, or the first fault of the text with its line: `Syntax` where a line is none
-/// of the forms that may stand there, which a cycle does behind `least none` and, behind the real times of all nodes, where
-/// the widening is above 0; else `Name` where a name is not the one that stands there or not the problem's; else `Range`
-/// where a real time or a weight is past 2^120 units in absolute value, or the widening 2^62 ns or more; else `Limit` behind
-/// 2^23 steps. `Long` comes beyond 2^31 bytes, and `Memory` only where memory runs out.
-pub fn read_widening(alloc: Global, p: &Problem, text: &[u8]) -> Result<Widening, CertError>
+/// The widening of a problem that a text spells, and what it widens, or the first fault of the text with its line: `Syntax`
+/// where a line is none of the forms that may stand there, which a cycle does behind `least none` and, behind the real times
+/// of all nodes, where the widening is above 0; else `Name` where a name is not the one that stands there or not the
+/// problem's; else `Range` where a real time or a weight is past 2^120 units in absolute value, or the widening 2^62 or
+/// more; else `Limit` behind 2^23 steps. `Long` comes beyond 2^31 bytes, and `Memory` only where memory runs out.
+pub fn read_widening(alloc: Global, p: &Problem, text: &[u8]) -> Result<StatedWidening, CertError>
     ensures { ReadsWidening p.now text.now result }
 {
     read_text(alloc, p, text)

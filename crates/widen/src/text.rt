@@ -4,20 +4,20 @@ ghost use Rattle.widen.specs.JudgedText.{JudgesText};
 use crate::read::read_widening;
 use crate::verdicts::judge;
 use cert::CertError;
-use cert_check::{Answer, What};
+use cert_check::Answer;
 use problem::Problem;
 use std::alloc::Global;
 
-/// Reads a widening's text of `p`, and answers whether the widening of what is named shows what it should, or the first reason why it does not,
-/// as `judge` does. Errors are those of reading: the first fault of the text with its line, or that the text has more than
+/// Reads a widening's text of `p`, and answers whether the widening of what it names shows what it should, or the first
+/// reason why it does not, as `judge` does. Errors are those of reading: the first fault of the text with its line, or that the text has more than
 /// 2^31 bytes, or want of memory.
-pub fn judge_text(alloc: Global, p: &Problem, what: What, text: &[u8]) -> Result<Answer, CertError>
-    ensures { JudgesText what p.now text.now result }
+pub fn judge_text(alloc: Global, p: &Problem, text: &[u8]) -> Result<Answer, CertError>
+    ensures { JudgesText p.now text.now result }
 {
     // It tells what the readings of the problem are.
     let _readings = p.readings();
     match read_widening(alloc, p, text) {
-        Ok(w) => Ok(judge(p, what, &w)),
+        Ok(stated) => Ok(judge(p, stated.what, &stated.widening)),
         Err(error) => Err(error),
     }
 }

@@ -1,6 +1,7 @@
 // The least widening, with what shows it.
 use atto::Nano;
 use cert::{Chain, Execution};
+use cert_check::What;
 
 /// By how much a problem must be widened at least, so that an execution exists. What of it is widened stands beside.
 #[derive(Drop)]
@@ -16,4 +17,11 @@ pub enum Widening {
     /// By no number below 2^62: a cycle of bounds, with the weights that they have where the problem is widened by 2^62 - 1,
     /// whose sum is negative.
     Never(Chain),
+}
+
+/// A widening, and what of the problem it widens.
+#[derive(Drop)]
+pub struct StatedWidening {
+    pub what: What,
+    pub widening: Widening,
 }

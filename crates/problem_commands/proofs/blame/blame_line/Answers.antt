@@ -1,6 +1,6 @@
 use Rattle.std.proofs.Common.{◌++◌, ◌∷◌, [], ◌∙◌, ap, ℕ, List}
 use Rattle.std.specs.Prelude.{codes}
-use Rattle.problem_commands.specs.Blame.{what_words}
+use Rattle.widen.specs.Named.{what_words}
 use Rattle.problem_commands.proofs.blame.blame_line.Goals as goal
 
 pub returns : goal.returns

@@ -1,10 +1,9 @@
 use Rattle.ports.proofs.Keeping.{keeps_then}
-use Rattle.problem_commands.specs.Widening.{all_delays}
 use Rattle.problem_commands.proofs.Widenings.{judged_named, judge_stops, widening_stops, judged}
 use Rattle.problem_commands.proofs.judge.judge.Goals as goal
 
 pub answer-requires : goal.answer-requires
-answer-requires g c = let found = c.in-Ok-judged_in.ensures.ok in judged_named all_delays c.in-Ok.p found.0 c.in-Ok-judged_in.found c.events.ensures.lawful found.2.judged
+answer-requires g c = let found = c.in-Ok-judged_in.ensures.ok in judged_named found.0.what c.in-Ok.p found.0.widening c.in-Ok-judged_in.found c.events.ensures.lawful found.2.judged
 
 pub returns-in-Err-clause-judged : goal.returns-in-Err-clause-judged
 returns-in-Err-clause-judged g c =
@@ -14,7 +13,7 @@ pub returns-in-Ok-judged_in-clause-judged : goal.returns-in-Ok-judged_in-clause-
 returns-in-Ok-judged_in-clause-judged g c =
     let found = c.in-Ok-judged_in.ensures.ok in
     judged c.args.problem.now c.args.widening.now _ _ _ (g.F.Files.told c.args.files.now) (g.F.Files.told c.problem_in.new.files) (g.F.Files.told c.judged_in.new.files)
-    c.in-Ok.p c.in-Ok.ensures.ok c.in-Ok.ensures.keeps found.0 found.1 c.in-Ok-judged_in.found found.2 c.answer.ensures
+    c.in-Ok.p c.in-Ok.ensures.ok c.in-Ok.ensures.keeps found.0.what found.0.widening found.1 c.in-Ok-judged_in.found found.2 c.answer.ensures
 
 pub returns-in-Ok-judged_in-clause-keeps : goal.returns-in-Ok-judged_in-clause-keeps
 returns-in-Ok-judged_in-clause-keeps g c = keeps_then _ _ _ c.in-Ok.ensures.keeps c.in-Ok-judged_in.ensures.keeps

@@ -8,7 +8,7 @@ pub returns-clause-never : goal.returns-clause-never
 returns-clause-never c = λ what p cycle found. never_found what p cycle found
 
 pub returns-clause-fits : goal.returns-clause-fits
-returns-clause-fits c = λ what p readings w lawful are found. text_of what p readings lawful are w found
+returns-clause-fits c = λ what p readings w lawful are named found. text_of what p readings lawful are named w found
 
 pub returns-clause-accepted : goal.returns-clause-accepted
-returns-clause-accepted c = λ what p readings w result lawful are found judged. accepted what p readings lawful are w result found judged
+returns-clause-accepted c = λ what p readings w result lawful are named found judged. accepted what p readings lawful are named w result found judged

@@ -8,29 +8,29 @@ use Rattle.widen.proofs.Reading.{fault_refuses, cut_refuses, line_on}
 use Rattle.widen.proofs.read.next_time.Goals as goal
 
 pub returns-in-Ok-clause-read : goal.returns-in-Ok-clause-read
-returns-in-Ok-clause-read c = λ extra text b.
+returns-in-Ok-clause-read c = λ what extra text b.
     let p = c.args.p.now in
     let r = all_readings p.events in
     let old = c.args.times.now in
     let new = c.take_value.new.values in
     let one = node_line p r old new c.in-Some.body.now _ c.requires.more c.in-Ok.ensures.takes in
-    let on = line_on p r text c.args.lines.now c.in-Some.body.now c.in-Some.rest.now (Said (Some extra) old None) (Said (Some extra) new None) (length old + 3) b (sym c.in-Some.ensures) (node_taken p r extra old new c.in-Some.body.now c.requires.more (Ok taken.Line) one) ((b.sound.0.0, c.in-Ok.ensures.sound), tt) in
+    let on = line_on p r text c.args.lines.now c.in-Some.body.now c.in-Some.rest.now (Said what (Some extra) old None) (Said what (Some extra) new None) (length old + 3) b (sym c.in-Some.ensures) (node_taken p r what extra old new c.in-Some.body.now c.requires.more (Ok taken.Line) one) ((b.sound.0.0, c.in-Ok.ensures.sound), tt, b.sound.2) in
     let count = one.lines in
-    subst (λ (n : ℕ). IsBehind p r text c.in-Some.rest.now (Said (Some extra) new None) n) (let next : length old + 3 + 1 ≡ length new + 3 = omega (arith, count) in next) on
+    subst (λ (n : ℕ). IsBehind p r text c.in-Some.rest.now (Said what (Some extra) new None) n) (let next : length old + 3 + 1 ≡ length new + 3 = omega (arith, count) in next) on
 
 pub returns-in-Err-clause-read : goal.returns-in-Err-clause-read
-returns-in-Err-clause-read c = λ extra text b.
+returns-in-Err-clause-read c = λ what extra text b.
     let p = c.args.p.now in
     let r = all_readings p.events in
     let old = c.args.times.now in
     let new = c.take_value.new.values in
-    rw (c.error_at.ensures, c.len-line.ensures.count) (fault_refuses p r text c.args.lines.now c.in-Some.body.now c.in-Some.rest.now (Said (Some extra) old None) (Said (Some extra) new None) (length old + 3) c.in-Err.fault b (sym c.in-Some.ensures)
-    (node_taken p r extra old new c.in-Some.body.now c.requires.more (Err c.in-Err.fault) c.in-Err.ensures.takes))
+    rw (c.error_at.ensures, c.len-line.ensures.count) (fault_refuses p r text c.args.lines.now c.in-Some.body.now c.in-Some.rest.now (Said what (Some extra) old None) (Said what (Some extra) new None) (length old + 3) c.in-Err.fault b (sym c.in-Some.ensures)
+    (node_taken p r what extra old new c.in-Some.body.now c.requires.more (Err c.in-Err.fault) c.in-Err.ensures.takes))
 
 pub returns-in-None-clause-read : goal.returns-in-None-clause-read
-returns-in-None-clause-read c = λ extra text b.
+returns-in-None-clause-read c = λ what extra text b.
     let p = c.args.p.now in
-    rw c.len-line.ensures.count (cut_refuses p (all_readings p.events) text c.args.lines.now (Said (Some extra) c.args.times.now None) (length c.args.times.now + 3) b (sym c.in-None.ensures))
+    rw c.len-line.ensures.count (cut_refuses p (all_readings p.events) text c.args.lines.now (Said what (Some extra) c.args.times.now None) (length c.args.times.now + 3) b (sym c.in-None.ensures))
 
 pub returns-in-Ok-clause-one : goal.returns-in-Ok-clause-one
 returns-in-Ok-clause-one c =

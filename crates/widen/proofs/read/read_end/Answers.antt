@@ -9,15 +9,15 @@ pub behind-requires : goal.behind-requires
 behind-requires c = lacks_test 10 (codes "end") refl
 
 pub returns-then-is_empty : goal.returns-then-is_empty
-returns-then-is_empty c = λ p readings values text b whole.
+returns-then-is_empty c = λ p readings what values text b whole.
     let none : c.in-Some.rest.now ≡ [] = nil_from_length _ (grind (arith, c.is_empty.ensures, c.if-is_empty.true)) in
-    end_found p readings text c.args.lines.now c.in-Some.rest.now (Said (Some 0) values None) c.args.line b c.in-Some.ensures.some none (refl, whole)
+    end_found p readings text c.args.lines.now c.in-Some.rest.now (Said what (Some 0) values None) c.args.line b c.in-Some.ensures.some none (refl, whole)
 
 pub returns-else-is_empty : goal.returns-else-is_empty
-returns-else-is_empty c = λ p readings values text b whole.
+returns-else-is_empty c = λ p readings what values text b whole.
     let some : c.in-Some.rest.now ≢ [] = λ is. let none = ap length is in grind (arith, none, c.is_empty.ensures, c.if-is_empty.false) in
-    end_more p readings text c.args.lines.now c.in-Some.rest.now (Said (Some 0) values None) c.args.line b c.in-Some.ensures.some some (refl, whole)
+    end_more p readings text c.args.lines.now c.in-Some.rest.now (Said what (Some 0) values None) c.args.line b c.in-Some.ensures.some some (refl, whole)
 
 pub returns-in-None : goal.returns-in-None
-returns-in-None c = λ p readings values text b whole.
-    only_line p readings text c.args.lines.now (Said (Some 0) values None) c.args.line (codes "end" ∷ []) b (only_end p readings values whole) c.in-None.ensures.none
+returns-in-None c = λ p readings what values text b whole.
+    only_line p readings text c.args.lines.now (Said what (Some 0) values None) c.args.line (codes "end" ∷ []) b (only_end p readings what values whole) c.in-None.ensures.none

@@ -11,18 +11,18 @@ pub behind-requires : goal.behind-requires
 behind-requires c = lacks_test 10 (codes "cycle") refl
 
 pub returns-in-Ok : goal.returns-in-Ok
-returns-in-Ok c = λ text b.
+returns-in-Ok c = λ what text b.
     let p = c.args.p.now in
     let r = all_readings p.events in
-    (found_is p r (own_readings p c.readings.result.now c.readings.ensures) (Never c.in-Ok.cycle) text).1 (c.in-Ok.ensures None [] text (cycle_on p r text c.args.lines.now c.in-Some.rest.now None [] 3 b c.in-Some.ensures.some tt))
+    (found_is p r (own_readings p c.readings.result.now c.readings.ensures) what (Never c.in-Ok.cycle) text).1 (c.in-Ok.ensures what None [] text (cycle_on p r text c.args.lines.now c.in-Some.rest.now what None [] 3 b c.in-Some.ensures.some tt))
 
 pub returns-in-Err : goal.returns-in-Err
-returns-in-Err c = λ text b.
+returns-in-Err c = λ what text b.
     let p = c.args.p.now in
-    c.in-Err.ensures None [] text (cycle_on p (all_readings p.events) text c.args.lines.now c.in-Some.rest.now None [] 3 b c.in-Some.ensures.some tt)
+    c.in-Err.ensures what None [] text (cycle_on p (all_readings p.events) text c.args.lines.now c.in-Some.rest.now what None [] 3 b c.in-Some.ensures.some tt)
 
 pub returns-in-None : goal.returns-in-None
-returns-in-None c = λ text b.
+returns-in-None c = λ what text b.
     let p = c.args.p.now in
     let r = all_readings p.events in
-    only_line p r text c.args.lines.now (Said None [] None) 3 (codes "cycle" ∷ []) b (only_cycle p r) c.in-None.ensures.none
+    only_line p r text c.args.lines.now (Said what None [] None) 3 (codes "cycle" ∷ []) b (only_cycle p r what) c.in-None.ensures.none

@@ -10,10 +10,10 @@ returns-then-ne-clause-none c =
 pub returns-else-ne-clause-some : goal.returns-else-ne-clause-some
 returns-else-ne-clause-some c =
     let is : c.in-Some.word.now ≡ codes "least" = search rules in
-    some_says _ _ _ _ (sym c.in-Some.ensures) is c.extra_of.ensures.some
+    some_says _ _ _ _ (sym c.in-Some.ensures) is c.stated_in.ensures.some
 
 pub returns-else-ne-clause-none : goal.returns-else-ne-clause-none
-returns-else-ne-clause-none c = none_says _ _ _ _ (sym c.in-Some.ensures) c.extra_of.ensures.none
+returns-else-ne-clause-none c = none_says _ _ _ _ (sym c.in-Some.ensures) c.stated_in.ensures.none
 
 pub returns-in-None-clause-none : goal.returns-in-None-clause-none
 returns-in-None-clause-none c = not_cut _ (sym c.in-None.ensures)

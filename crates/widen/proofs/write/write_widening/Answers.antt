@@ -11,7 +11,7 @@ use Rattle.widen.proofs.write.write_widening.Goals as goal
 pub returns-in_err-write_whole : goal.returns-in_err-write_whole
 returns-in_err-write_whole g c =
     let p = c.args.p.now in
-    let lines = widening_lines p (nodes_of p (all_readings p.events)) c.args.w.now in (
+    let lines = widening_lines p (nodes_of p (all_readings p.events)) c.args.what c.args.w.now in (
       all_readings p.events,
       own_readings p c.readings.result.now c.readings.ensures,
       writes_failed c.from_residual.ensures.0 (writes_front (line_of (codes "end" ∷ [])) (writes_front lines c.in_err-write_whole.ensures)),

@@ -1,0 +1,5 @@
+use Rattle.problem_commands.proofs.ClockNames.{nothing_at_first}
+use Rattle.problem_commands.proofs.what_words.of_clock.Goals as goal
+
+pub returns-in-None-clause-none : goal.returns-in-None-clause-none
+returns-in-None-clause-none c = λ p lawful. nothing_at_first p lawful _ _ _ (rw c.as_bytes.ensures.value at c.in-None.ensures)
