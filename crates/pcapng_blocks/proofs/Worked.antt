@@ -2,7 +2,6 @@
 use Rattle.std.proofs.Common.{◌≡◌, ◌∷◌, [], ◌++◌, ℕ, List, refl, length}
 use Rattle.pcapng_blocks.specs.Bytes.{SaidInterface, SaidPacket, comment_options, filled, interface_bytes, packet_bytes, section_header}
 use Rattle.pcapng_blocks.specs.File.{file_bytes}
-use Rattle.pcapng_blocks.specs.Interfaces.{place_in}
 
 -- an Ethernet interface "a" of which "x y" is said, and a packet of 3 of 60 bytes at 2^32 + 5 ns with the comment "ok"
 abbrev interface : SaidInterface
@@ -46,6 +45,3 @@ worked-filled = refl
 
 worked-comment : length (comment_options (111 ∷ 107 ∷ [])) ≡ 12
 worked-comment = refl
-
-worked-place : place_in ((0, 1) ∷ (0, 113) ∷ (2, 1) ∷ []) (2, 1) ≡ 2
-worked-place = refl

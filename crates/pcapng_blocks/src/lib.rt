@@ -3,12 +3,10 @@
 #![tactic(auto)]
 
 mod blocks;
-mod interfaces;
 mod laws;
 mod options;
 mod said;
 
 pub use blocks::{write_interface, write_packet, write_section};
-pub use interfaces::{distinct_keys, key_place};
 pub use laws::files_are_read;
 pub use said::{InterfaceText, PacketText};
