@@ -94,9 +94,9 @@ fn begins(alloc: Global, p: &Problem, w: &Widening, head: &str) -> bool
     let Ok(mut out) = MemSink::new(alloc, 4096, 512, &[]) else {
         return false;
     };
-    write_widening(p, w, &mut out).is_ok()
+    write_widening(p, What::Delays(Links::All), w, &mut out).is_ok()
         && out.bytes().starts_with(head.as_bytes())
-        && judge_text(alloc, p, What::Delays(Links::All), out.bytes()) == Ok(Answer::Yes)
+        && judge_text(alloc, p, out.bytes()) == Ok(Answer::Yes)
 }
 
 // Whether that of the least widening of a problem does.

@@ -1,5 +1,6 @@
 // The least widenings of other numbers than greatest delays, and of those of one clock or link.
-ghost use Rattle.std.specs.Prelude.{◌≡◌, ◌<◌, IfOk};
+ghost use Rattle.std.specs.Prelude.{◌≡◌, ◌<◌, length, IfOk, IsTrue};
+ghost use Rattle.widen.specs.Named.{NamesWhat};
 ghost use Rattle.widen.specs.Widening.{IsWideningOf};
 
 use atto::Steps;
@@ -89,15 +90,37 @@ fn extra_of(w: &Widening) -> Option<u64> {
     }
 }
 
+// Whether the problem has a clock at this place.
+fn has_place(p: &Problem, place: u32) -> bool
+    ensures { IsTrue result → place < length p.now.clocks }
+{
+    (place as usize) < p.clocks().len()
+}
+
+// Whether the clocks that are meant are ones of the problem.
+fn has_what(p: &Problem, what: What) -> bool
+    ensures { IsTrue result → NamesWhat p.now what }
+{
+    match what {
+        What::Delays(Links::All) | What::Least(Links::All) => true,
+        What::Delays(Links::Between { from, to }) => has_place(p, from) && has_place(p, to),
+        What::Least(Links::Between { from, to }) => has_place(p, from) && has_place(p, to),
+        What::Stamps(Clocks::All) | What::Rates(Clocks::All) => true,
+        What::Stamps(Clocks::One(place)) => has_place(p, place),
+        What::Rates(Clocks::One(place)) => has_place(p, place),
+    }
+}
+
 // Whether the text of a widening is judged yes.
 fn is_true(alloc: Global, p: &Problem, what: What, w: &Widening) -> bool
-    requires { IsWideningOf p.now w.now }
+    requires named { NamesWhat p.now what }
+    requires is { IsWideningOf p.now w.now }
 {
     let Ok(mut out) = MemSink::new(alloc, 4096, 512, &[]) else {
         return false;
     };
-    write_widening(p, w, &mut out).is_ok()
-        && judge_text(alloc, p, what, out.bytes()) == Ok(Answer::Yes)
+    write_widening(p, what, w, &mut out).is_ok()
+        && judge_text(alloc, p, out.bytes()) == Ok(Answer::Yes)
 }
 
 // Whether so much is the least widening of a problem, and its text is judged yes.
@@ -105,6 +128,9 @@ fn is_found(alloc: Global, problem: &str, what: What, wanted: Option<u64>) -> bo
     let Ok(p) = read_problem(alloc, problem.as_bytes()) else {
         return false;
     };
+    if !has_what(&p, what) {
+        return false;
+    }
     match found_counted::<Brand>(alloc, &p, what, Blank::new(1)) {
         Ok(w) => extra_of(&w) == wanted && is_true(alloc, &p, what, &w),
         Err(_) => false,

@@ -118,7 +118,7 @@ fn answer_with(
 ) -> Result<Answer, CertError> {
     let mut bytes = Vec::new(alloc);
     match push_lines(&mut bytes, lines, place, text) {
-        Ok(()) => judge_text(alloc, p, What::Delays(Links::All), &bytes),
+        Ok(()) => judge_text(alloc, p, &bytes),
         Err(_) => Err(CertError::Memory),
     }
 }

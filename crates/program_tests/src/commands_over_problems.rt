@@ -255,8 +255,8 @@ const CROSSED: &str =
 const CROSSED_CYCLE: &str =
     "certificate 1\ncycle\nstep early p 0.000000000\nstep late q 0.000000000\nstep delay-least p q -2.000000000\nend\n";
 
-// The sums of the cycles: 20 + 50 + 20 - 95 = -5 ns; 0 + 0 - 2, where the least delay is above the greatest; 39 - 4 * 10
-// over four clocks; and 1000000000 - 1000000100, where one clock may run 100 ppb slow and the other must keep time.
+// The sums of the cycles: 20 + 50 + 20 - 95 = -5 ns; 0 + 0 - 2, where the least delay is above the greatest; 39 - 4 *
+// 10 over four clocks; and 1000000000 - 1000000100, where one clock may run 100 ppb slow and the other must keep time.
 const SOLVED: [(&str, &str); 7] = [
     ("problem 1\nend\n", "certificate 1\nrun\nend\n"),
     (TWO_LOGS_PROBLEM, TWO_LOGS_RUN),
@@ -316,9 +316,9 @@ fn ends_of_so(
 
 const RATE: &str = "problem 1\nclock c 100 100 0 0\nevent p c 0\nevent q c 1000000000\nend\n";
 
-// Drift of 100 ppb over a second; a message of 0 ns and of 1 ns at least; stamps off by 5 and 7 ns; the greatest span at
-// both extremes of drift; clocks that no message ties; two paths of which the longer is the tighter; a contradiction;
-// names that are not there, also beside one.
+// Drift of 100 ppb over a second; a message of 0 ns and of 1 ns at least; stamps off by 5 and 7 ns; the greatest span
+// at both extremes of drift; clocks that no message ties; two paths of which the longer is the tighter; a
+// contradiction; names that are not there, also beside one.
 const INTERVALS: [(&str, &str, &str, Status, &str); 16] = [
     (
         RATE,
@@ -341,7 +341,7 @@ const INTERVALS: [(&str, &str, &str, Status, &str); 16] = [
         Status::Done,
         "0.000000000 0.000000000 same\n",
     ),
-    (RATE, "p", "z", Status::UnknownEvent, "unknown event\n"),
+    (RATE, "p", "z", Status::UnknownName, "unknown event\n"),
     (
         OPEN_PROBLEM,
         "p",
@@ -401,7 +401,7 @@ const INTERVALS: [(&str, &str, &str, Status, &str); 16] = [
     ),
     (CROSSED, "p", "q", Status::Done, CROSSED_CYCLE),
     (CONTRADICTING_PROBLEM, "a#1", "b#1", Status::Done, CYCLE),
-    (CROSSED, "z", "q", Status::UnknownEvent, "unknown event\n"),
+    (CROSSED, "z", "q", Status::UnknownName, "unknown event\n"),
     ("problem 3\n", "p", "q", Status::BadProblem, "problem 1 1\n"),
 ];
 
@@ -528,8 +528,8 @@ fn the_first_fault_behind_clocks(rt: HostRuntime) -> Result<(), Fail> {
 
 const OBEYING: &str = "execution 1\nevent p 0.000000000\nreading c 0 0.000000000\nend\n";
 
-// Words, the writes that fail, and what is answered. Files are there or not, writes fail, one of them in the certificate,
-// and words are no command.
+// Words, the writes that fail, and what is answered. Files are there or not, writes fail, one of them in the
+// certificate, and words are no command.
 const FAILING: [(&[&str], &[u32], Status, &str); 11] = [
     (&["obey", "p", "e"], &[], Status::Done, "obeys\n"),
     (&["obey", "q", "e"], &[], Status::ReadFault, "read fault\n"),

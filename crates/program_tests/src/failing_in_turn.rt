@@ -158,7 +158,8 @@ fn is_not_read_on(alloc: Global, number: u32) -> Result<Option<bool>, AllocError
     }
 }
 
-// Whether a file was not read in the read of this number: the declaration, when nothing else is said, or one of the logs.
+// Whether a file was not read in the read of this number: the declaration, when nothing else is said, or one of the
+// logs.
 fn is_told_of(alloc: Global, number: u32) -> Result<Option<bool>, AllocError> {
     let mut printed = Vec::new(alloc);
     let failing = Failing {

@@ -135,7 +135,8 @@ fn a_gap_is_waited_for(rt: HostRuntime) -> Result<(), Fail> {
     Ok(())
 }
 
-// A follow is broken where less time is between the clocks, before any message is, and it is that of the nearest reading.
+// A follow is broken where less time is between the clocks, before any message is, and it is that of the nearest
+// reading.
 const JUDGED: [(&str, &str, Status, &str); 7] = [
     (
         GAP,

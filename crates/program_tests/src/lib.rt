@@ -4,8 +4,8 @@
 //! other, `sessions` those over a declaration, `long_sessions` one over a log of thousands of rows,
 //! `verified_certificates` those over a certificate, with its table `verify_cases`, `trials` the trials, `widenings`
 //! those over a widening, `merged_captures` merges, `passed_packets` a capture with packets that are passed over,
-//! `failing_in_turn` has each call of a device fail; `runs` is how they are run, and `fixtures` has what several of them
-//! use.
+//! `failing_in_turn` has each call of a device fail; `runs` is how they are run, and `fixtures` has what several of
+//! them use.
 #![tactic(auto)]
 
 #[cfg(test)]

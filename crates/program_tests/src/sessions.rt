@@ -31,6 +31,10 @@ const OTHER_HOSTS_NAME: &str =
     [labels.r]\nhost = \"a\"\nkind = \"log\"\nclock = \"a2\"\n\
     [[links]]\nfrom = \"a\"\nto = \"b\"\nleast = 10\nmost = 20\n";
 
+// Two logs where a window of 149 ns is declared.
+const WINDOW: &str =
+    "window = 149\n[hosts.a]\n[hosts.b]\n[labels.a]\nhost = \"a\"\nkind = \"log\"\n[labels.b]\nhost = \"b\"\nkind = \"log\"\n";
+
 const SAME_LINK: &str =
     "[hosts.a]\n[[links]]\nfrom = \"a\"\nto = \"a\"\n[[links]]\nfrom = \"a\"\nto = \"a\"\n";
 
@@ -87,7 +91,18 @@ fn ends_so(alloc: Global, case: &Case) -> Result<bool, AllocError> {
     answers_so(alloc, case, &mut files)
 }
 
-const SESSIONS: [Case; 10] = [
+const SESSIONS: [Case; 11] = [
+    // The ends of one message are 150 ns apart, and of the other one 120 ns.
+    Case {
+        decl: WINDOW,
+        log: ON_TIME,
+        file_fails: &[],
+        script: "add a a.csv\nadd b b.csv\nadd b d.csv\n",
+        read_fails: &[],
+        write_fails: &[],
+        status: Status::Done,
+        printed: replies!(added(2, 0, 0, 0), added(2, 1, 0, 0), added(1, 0, 1, 0)),
+    },
     Case {
         decl: TWO_LOGS_DECLARATION,
         log: ON_TIME,
@@ -369,7 +384,8 @@ fn runs_so(alloc: Global, wanted: &Wanted<'_>, size: usize) -> Result<bool, Allo
     shows_so(alloc, wanted, &mut files)
 }
 
-// A declaration of 2^24 bytes is read, and one of more is refused; a path that is not there; too few words and too many.
+// A declaration of 2^24 bytes is read, and one of more is refused; a path that is not there; too few words and too
+// many.
 #[test]
 fn words_of_sessions(rt: HostRuntime) -> Result<(), Fail> {
     for (words, size, status, printed) in [
@@ -399,7 +415,8 @@ fn words_of_sessions(rt: HostRuntime) -> Result<(), Fail> {
     Ok(())
 }
 
-// What is to be proved: a declaration, which log `a.csv` is, the additions, and two scripts that have a last line behind them.
+// What is to be proved: a declaration, which log `a.csv` is, the additions, and two scripts that have a last line
+// behind them.
 struct Proof {
     decl: &'static str,
     log: &'static str,

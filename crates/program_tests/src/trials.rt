@@ -6,7 +6,8 @@ use problem_commands::Status;
 use std::alloc::{AllocError, Global};
 use std::test::Fail;
 
-// The counts of the trial 7, and the replies of a session over the same rows that were added in one piece for each host.
+// The counts of the trial 7, and the replies of a session over the same rows that were added in one piece for each
+// host.
 const TRIAL_SEVEN: &str = "trial 7 events 4000 messages 2000\n\
     interval 123310.259140000 126663.778920000\n\
     interval 108358.655420000 111213.416140000\n\

@@ -82,8 +82,8 @@ fn solution_holds(alloc: Global, problem: &str) -> Result<bool, AllocError> {
     ends_so(alloc, problem, cert.bytes(), Status::Done, "yes\n")
 }
 
-// How many rows, from the first on, come out as they say. A row has a problem, a certificate, what is changed in it, and
-// what is printed.
+// How many rows, from the first on, come out as they say. A row has a problem, a certificate, what is changed in it,
+// and what is printed.
 pub(crate) fn rows_verified(
     alloc: Global,
     rows: &[(&str, &str, &str, &str, &str)],

@@ -160,8 +160,8 @@ fn what_is_not_there_is_not_widened(rt: HostRuntime) -> Result<(), Fail> {
     Ok(())
 }
 
-// What each candidate has to do with the contradicting problem, in which 95 ns of a stand against 50 of b and two messages of
-// 20 at most; and with the one whose message takes 20 ns at least, while its clock counts 10.
+// What each candidate has to do with the contradicting problem, in which 95 ns of a stand against 50 of b and two
+// messages of 20 at most; and with the one whose message takes 20 ns at least, while its clock counts 10.
 const BLAMED: &str =
     "blame delays 3 ns\nblame least none\nblame stamps 2 ns\nblame rates 34482759 ppb\nblame stamps a 3 ns\n\
     blame rates a 52631579 ppb\nblame stamps b 3 ns\nblame rates b 100000000 ppb\nend\n";
@@ -178,5 +178,99 @@ fn each_candidate_is_told(rt: HostRuntime) -> Result<(), Fail> {
     assert!(rt; ends_so(alloc, &words, CONTRADICTING_PROBLEM, done, BLAMED)?);
     assert!(rt; ends_so(alloc, &words, HOPELESS_PROBLEM, done, BLAMED_LEAST)?);
     assert!(rt; ends_so(alloc, &words, TWO_LOGS_PROBLEM, done, "blame none\n")?);
+    Ok(())
+}
+
+// What `widen` prints with which words behind the contradicting problem.
+const NAMED: [(&[&str], &str); 6] = [
+    (&["widen", "p", "delays"], "widening 1\nleast 3\nevent"),
+    (
+        &["widen", "p", "least"],
+        "widening 1\nleast none least\ncycle\n",
+    ),
+    (
+        &["widen", "p", "stamps"],
+        "widening 1\nleast 2 stamps\nevent",
+    ),
+    (
+        &["widen", "p", "stamps", "a"],
+        "widening 1\nleast 3 stamps a\nevent",
+    ),
+    (
+        &["widen", "p", "rates", "b"],
+        "widening 1\nleast 100000000 rates b\nevent",
+    ),
+    (
+        &["widen", "p", "delays", "b", "a"],
+        "widening 1\nleast 5 delays b a\nevent",
+    ),
+];
+
+// Whether what is printed with these words begins so, and is judged yes.
+fn names_so(alloc: Global, words: &[&str], head: &str) -> Result<bool, AllocError> {
+    let mut files = MemFiles::new(alloc, &[])?;
+    files.put("p", CONTRADICTING_PROBLEM.as_bytes())?;
+    let mut out = MemSink::new(alloc, 4096, 512, &[])?;
+    run_over(alloc, words, &mut files, &NO_SCRIPT, &mut out)?;
+    Ok(
+        out.bytes().starts_with(head.as_bytes())
+            && holds(alloc, CONTRADICTING_PROBLEM, out.bytes())?,
+    )
+}
+
+#[test]
+fn each_kind_is_widened_by_name(rt: HostRuntime) -> Result<(), Fail> {
+    let alloc = rt.alloc();
+    for (words, head) in &NAMED {
+        assert!(rt; names_so(alloc, words, head)?, "{head}");
+    }
+    Ok(())
+}
+
+#[test]
+fn clock_that_is_not_there_is_not_widened(rt: HostRuntime) -> Result<(), Fail> {
+    let alloc = rt.alloc();
+    for clock in ["c", "a#1", ""] {
+        let words = ["widen", "p", "rates", clock];
+        assert!(rt;
+            ends_so(
+                alloc,
+                &words,
+                CONTRADICTING_PROBLEM,
+                Status::UnknownName,
+                "unknown clock\n"
+            )?
+        );
+    }
+    Ok(())
+}
+
+#[test]
+fn text_names_what_is_judged(rt: HostRuntime) -> Result<(), Fail> {
+    let alloc = rt.alloc();
+    assert!(rt;
+        judged_so(
+            alloc,
+            "least 3 delays\n",
+            Status::BadCert,
+            "certificate 1 2\n"
+        )?
+    );
+    assert!(rt;
+        judged_so(
+            alloc,
+            "least 3 rates c\n",
+            Status::BadCert,
+            "certificate 2 2\n"
+        )?
+    );
+    assert!(rt;
+        judged_so(
+            alloc,
+            "least 3 rates a b\n",
+            Status::BadCert,
+            "certificate 1 2\n"
+        )?
+    );
     Ok(())
 }

@@ -14,18 +14,27 @@ pub(crate) fn declared(alloc: Global, text: &[u8]) -> Option<Decl>
     read_decl(alloc, text).ok()
 }
 
-// The events of a log with this text.
-pub(crate) fn events_of_log(alloc: Global, text: &[u8]) -> Option<Vec<Event>> {
+// The events of a log with this text, whose stamps are of a clock by its place.
+pub(crate) fn events_of_log(
+    alloc: Global,
+    decl: &Decl,
+    clock: u32,
+    text: &[u8],
+) -> Option<Vec<Event>>
+    requires { IsDeclaration (declaration_of decl.now) }
+{
     if text.len() > 1 << 28 {
         return None;
     }
     let rows = read_rows(alloc, text).ok()?;
-    row_events(alloc, rows).ok()
+    row_events(alloc, decl, clock, rows).ok()
 }
 
-// What is accepted of a log with this text.
-pub(crate) fn log_of(alloc: Global, text: &[u8]) -> Option<Accepted> {
-    let events = events_of_log(alloc, text)?;
+// What is accepted of such a log.
+pub(crate) fn log_of(alloc: Global, decl: &Decl, clock: u32, text: &[u8]) -> Option<Accepted>
+    requires { IsDeclaration (declaration_of decl.now) }
+{
+    let events = events_of_log(alloc, decl, clock, text)?;
     Some(Accepted {
         events,
         size: text.len() as u64,

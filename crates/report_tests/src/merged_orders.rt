@@ -65,9 +65,11 @@ const CASES: [Case; 6] = [
     },
 ];
 
-fn logs_of(alloc: Global, texts: &[&str; 2]) -> Option<Vec<Accepted>> {
-    let first = log_of(alloc, texts[0].as_bytes())?;
-    let second = log_of(alloc, texts[1].as_bytes())?;
+fn logs_of(alloc: Global, decl: &Decl, texts: &[&str; 2]) -> Option<Vec<Accepted>>
+    requires { IsDeclaration (declaration_of decl.now) }
+{
+    let first = log_of(alloc, decl, 0, texts[0].as_bytes())?;
+    let second = log_of(alloc, decl, 1, texts[1].as_bytes())?;
     Vec::from_array(alloc, [first, second]).ok()
 }
 
@@ -104,7 +106,7 @@ fn merged_so(
     written: &str,
 ) -> Option<bool> {
     let decl = declared(alloc, TWO_LOGS_DECLARATION.as_bytes())?;
-    let logs = logs_of(alloc, texts)?;
+    let logs = logs_of(alloc, &decl, texts)?;
     let mut out = MemSink::new(alloc, 600, 7, fails).ok()?;
     let given = merge::<Brand>(alloc, &decl, &logs, &mut out, Blank::new(1)).ok()?;
     Some(given == answer && out.bytes() == written.as_bytes())

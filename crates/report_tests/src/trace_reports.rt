@@ -1,5 +1,5 @@
 // Reports on small traces, byte for byte. The lines were made by another JSON writer (Python's json), with sorted keys.
-ghost use Rattle.std.specs.Prelude.{◌≤◌, IfOk};
+ghost use Rattle.std.specs.Prelude.{IfOk};
 ghost use Rattle.decl.specs.Declaration.{IsDeclaration, declaration_of};
 ghost use Rattle.traces.specs.Held.{seen_in};
 ghost use Rattle.reference_traces.specs.Added.{AreAllAdded};
@@ -17,7 +17,7 @@ use report::{key_text, report_line, view_of};
 use shared_fixtures::EMPTY_REPORT;
 use std::alloc::{AllocError, Global};
 use std::test::*;
-use traces::{Event, Key, event_count, packet_events};
+use traces::{Event, MessageKey, event_count, packet_events};
 
 // Captures at the hosts a and b, a log at a and two at b.
 const DECLARATION: &[u8] =
@@ -211,6 +211,47 @@ const PACKETS: Case = Case {
     \"unmatched\":1}\n",
 };
 
+// The same traces where a window of 10 ns is declared, and the clock of a is 5 ns ahead.
+const WINDOW_DECLARATION: &[u8] =
+    b"payload_bytes = 16\nwindow = 10\n[hosts.a]\naddresses = ['10.1.2.3']\noffset = 5\n[hosts.b]\n\
+    addresses = ['192.168.3.254']\n[labels]\nca = { host = 'a', kind = 'capture' }\n\
+    cb = { host = 'b', kind = 'capture' }\nla = { host = 'a', kind = 'log' }\nlb = { host = 'b', kind = 'log' }\n\
+    lc = { host = 'b', kind = 'log' }\n";
+
+// Three groups of one word, from 95 ns on, from 205 on and at 295: the first one is ambiguous, the second one is a message
+// from 215 to 205, 10 ns apart, and the third one has a send alone. They come in turns.
+const GROUPS: Case = Case {
+    frames: [&[], &[]],
+    logs: [
+        b"100,send,m,\n105,send,m,\n220,send,m,\n300,send,m,\n",
+        b"104,receive,m,\n205,receive,m,\n",
+        b"",
+    ],
+    turns: &[(3, 1), (2, 3), (3, 1), (2, 1)],
+    consistent: true,
+    line: "{\"ambiguous\":[{\"key\":\"log m\",\"receives\":[\"lb#1\"],\"sends\":[\"la#1\",\"la#2\"]}],\"consistent\":true,\
+    \"events\":6,\"messages\":1,\"nokey\":{\"fragment\":0,\"header\":0,\"length\":0,\"link\":0,\"local\":0,\"other\":0,\
+    \"short\":0,\"side\":0},\"unmatched\":1}\n",
+};
+
+// Two ambiguous groups of one word, and ends of another one that lie further apart than the window.
+const APART: Case = Case {
+    frames: [&[], &[]],
+    logs: [
+        b"5,send,m,\n6,send,m,\n50,send,n,\n105,send,m,\n",
+        b"10,receive,m,\n56,receive,n,\n100,receive,m,\n101,receive,m,\n",
+        b"",
+    ],
+    turns: &[(3, 4), (2, 4)],
+    consistent: true,
+    line: "{\"ambiguous\":[{\"key\":\"log m\",\"receives\":[\"lb#1\"],\"sends\":[\"la#1\",\"la#2\"]},{\"key\":\"log m\",\
+    \"receives\":[\"lb#3\",\"lb#4\"],\"sends\":[\"la#4\"]}],\"consistent\":true,\"events\":8,\"messages\":0,\
+    \"nokey\":{\"fragment\":0,\"header\":0,\"length\":0,\"link\":0,\"local\":0,\"other\":0,\"short\":0,\"side\":0},\
+    \"unmatched\":2}\n",
+};
+
+const WINDOW_CASES: [Case; 3] = [NOTHING, GROUPS, APART];
+
 const CASES: [Case; 8] = [
     NOTHING,
     SECOND_SEND,
@@ -240,22 +281,29 @@ fn packets_of(alloc: Global, frames: &[Frame]) -> Option<Vec<Packet>> {
     Some(packets)
 }
 
-fn captured(alloc: Global, decl: &Decl, host: u32, frames: &[Frame]) -> Option<Vec<Event>>
-    requires { decl.now.payload_bytes ≤ 64 }
+// The events of frames that were captured at a host whose only clock has this place.
+fn captured(
+    alloc: Global,
+    decl: &Decl,
+    host: u32,
+    clock: u32,
+    frames: &[Frame],
+) -> Option<Vec<Event>>
+    requires { IsDeclaration (declaration_of decl.now) }
 {
     let packets = packets_of(alloc, frames)?;
-    packet_events(alloc, decl, host, &packets).ok()
+    packet_events(alloc, decl, host, clock, &packets).ok()
 }
 
 // The events of each label, from the last to the first.
 fn events_backward(alloc: Global, decl: &Decl, case: &Case) -> Option<Vec<Vec<Event>>>
-    requires { decl.now.payload_bytes ≤ 64 }
+    requires { IsDeclaration (declaration_of decl.now) }
 {
-    let at_a = captured(alloc, decl, 0, case.frames[0])?;
-    let at_b = captured(alloc, decl, 1, case.frames[1])?;
-    let of_a = events_of_log(alloc, case.logs[0])?;
-    let of_b = events_of_log(alloc, case.logs[1])?;
-    let of_c = events_of_log(alloc, case.logs[2])?;
+    let at_a = captured(alloc, decl, 0, 0, case.frames[0])?;
+    let at_b = captured(alloc, decl, 1, 1, case.frames[1])?;
+    let of_a = events_of_log(alloc, decl, 0, case.logs[0])?;
+    let of_b = events_of_log(alloc, decl, 1, case.logs[1])?;
+    let of_c = events_of_log(alloc, decl, 1, case.logs[2])?;
     let mut labels = Vec::from_array(alloc, [at_a, at_b, of_a, of_b, of_c]).ok()?;
     for events in &mut labels {
         events.reverse();
@@ -316,15 +364,15 @@ fn report_on(alloc: Global, kept: &Additions, consistent: bool) -> Option<Vec<u8
     report_line(alloc, &view).ok()
 }
 
-fn line_of(alloc: Global, case: &Case) -> Option<Vec<u8>> {
-    let decl = declared(alloc, DECLARATION)?;
+fn line_of(alloc: Global, declaration: &[u8], case: &Case) -> Option<Vec<u8>> {
+    let decl = declared(alloc, declaration)?;
     let mut left = events_backward(alloc, &decl, case)?;
     let kept = added_in_turn(alloc, decl, &mut left, case.turns).ok()?;
     report_on(alloc, &kept, case.consistent)
 }
 
-fn has_line(alloc: Global, case: &Case) -> bool {
-    match line_of(alloc, case) {
+fn has_line(alloc: Global, declaration: &[u8], case: &Case) -> bool {
+    match line_of(alloc, declaration, case) {
         Some(line) => line.as_slice() == case.line.as_bytes(),
         None => false,
     }
@@ -333,7 +381,14 @@ fn has_line(alloc: Global, case: &Case) -> bool {
 #[test]
 fn reports(rt: HostRuntime) {
     for case in &CASES {
-        assert!(rt; has_line(rt.alloc(), case), "{}", case.line);
+        assert!(rt; has_line(rt.alloc(), DECLARATION, case), "{}", case.line);
+    }
+    for case in &WINDOW_CASES {
+        assert!(rt;
+            has_line(rt.alloc(), WINDOW_DECLARATION, case),
+            "{}",
+            case.line
+        );
     }
 }
 
@@ -395,7 +450,7 @@ const TIMESTAMPS_TOLD: &str =
     "tcp 10.0.0.1:0 10.0.0.2:65535 id 1 seq 4294967295 ack 0 flags 255 length 40 payload - options 080a0d6d4d09c9040011";
 
 // A key with these headers: of TCP with these options where the protocol is 6, and else of UDP.
-fn packet_key(protocol: u8, network: Network, bytes: &[u8], told: &[u8]) -> Key {
+fn packet_key(protocol: u8, network: Network, bytes: &[u8], told: &[u8]) -> MessageKey {
     let mut payload = ArrayVec::new();
     let _fits = payload.try_extend_from_slice(bytes);
     let mut options = ArrayVec::new();
@@ -419,10 +474,10 @@ fn packet_key(protocol: u8, network: Network, bytes: &[u8], told: &[u8]) -> Key 
             payload,
         })
     };
-    Key::Packet(PacketKey { network, transport })
+    MessageKey::Packet(PacketKey { network, transport })
 }
 
-fn has_text(alloc: Global, key: &Key, wanted: &str) -> bool {
+fn has_text(alloc: Global, key: &MessageKey, wanted: &str) -> bool {
     match key_text(alloc, key) {
         Ok(text) => text.as_slice() == wanted.as_bytes(),
         Err(_) => false,
@@ -431,7 +486,7 @@ fn has_text(alloc: Global, key: &Key, wanted: &str) -> bool {
 
 fn is_word_told(alloc: Global, word: &str, wanted: &str) -> bool {
     match WordKey::new(word.as_bytes()) {
-        Some(word) => has_text(alloc, &Key::Word(word), wanted),
+        Some(word) => has_text(alloc, &MessageKey::Word(word), wanted),
         None => false,
     }
 }

@@ -4,19 +4,21 @@ use decl::{Decl, DeclError, IpVersion, Section, TraceKind, read_decl};
 use std::alloc::Global;
 use std::test::*;
 
-// What a declaration is to say: the names of hosts; each clock's name, short, long, early and late; each clock's host and
-// gap; addresses with their hosts; each label's name, host, clock and kind; links; the bytes of a payload; the source.
+// What a declaration is to say: the names of hosts; each clock's name, short, long, early and late; each clock's host, gap
+// and offset; addresses with their hosts; each label's name, host, clock and kind; links; the bytes of a payload; the window;
+// the source.
 #[derive(Clone, Copy)]
 pub(crate) struct Wanted {
     pub(crate) hosts: &'static [&'static str],
     pub(crate) clocks: &'static [(&'static str, u32, u32, u64, u64)],
-    pub(crate) owners: &'static [(u32, u64)],
+    pub(crate) owners: &'static [(u32, u64, i64)],
     pub(crate) addresses: &'static [(u32, u32)],
     pub(crate) labels: &'static [(&'static str, u32, u32, TraceKind)],
     pub(crate) links: &'static [(u32, u32, u64, Option<u64>)],
     pub(crate) payload_bytes: u8,
     pub(crate) tcp_options: bool,
     pub(crate) fragments: bool,
+    pub(crate) window: Option<u64>,
     pub(crate) source: Option<u32>,
 }
 
@@ -30,6 +32,7 @@ pub(crate) const NOTHING: Wanted = Wanted {
     payload_bytes: 0,
     tcp_options: false,
     fragments: false,
+    window: None,
     source: None,
 };
 
@@ -56,7 +59,8 @@ fn are_hosts(decl: &Decl, wanted: &Wanted) -> bool {
 fn are_owners(decl: &Decl, wanted: &Wanted) -> bool {
     decl.owners.len() == wanted.owners.len()
         && decl.owners.iter().zip(wanted.owners).all(|(owner, one)| owner.host == one.0
-            && owner.gap.get() == one.1)
+            && owner.gap.get() == one.1
+            && owner.offset == one.2)
 }
 
 fn are_addresses(decl: &Decl, wanted: &Wanted) -> bool {
@@ -90,8 +94,8 @@ fn finds_labels(decl: &Decl, wanted: &Wanted) -> bool
     decl.label_at(b"?").is_none()
 }
 
-fn is_most(most: Option<u64>, found: Option<u64>) -> bool {
-    most == found
+fn is_same(wanted: Option<u64>, found: Option<u64>) -> bool {
+    wanted == found
 }
 
 fn are_links(decl: &Decl, wanted: &Wanted) -> bool {
@@ -101,9 +105,9 @@ fn are_links(decl: &Decl, wanted: &Wanted) -> bool {
             link.from == one.0
                 && link.to == one.1
                 && link.least.get() == one.2
-                && is_most(link.most.map(|most| most.get()), one.3)
+                && is_same(one.3, link.most.map(|most| most.get()))
                 && least.get() == one.2
-                && is_most(most.map(|most| most.get()), one.3)
+                && is_same(one.3, most.map(|most| most.get()))
         })
 }
 
@@ -120,6 +124,7 @@ pub(crate) fn says(alloc: Global, text: &str, wanted: &Wanted) -> bool {
                 && decl.payload_bytes == wanted.payload_bytes
                 && decl.tcp_options == wanted.tcp_options
                 && decl.fragments == wanted.fragments
+                && is_same(wanted.window, decl.window.map(|window| window.get()))
                 && decl.source == wanted.source
         }
         Err(_) => false,
@@ -146,7 +151,7 @@ pub(crate) fn is_refused(
 }
 
 const WHOLE: &str =
-    "payload_bytes = 16\nsource = \"b\"\ntcp_options = true\n\n[hosts.c]\naddresses = []\n\n[hosts.b]\n\
+    "payload_bytes = 16\nsource = \"b\"\ntcp_options = true\nwindow = 4611686018427387903\n\n[hosts.c]\noffset = 4611686018427387903\naddresses = []\n\n[hosts.b]\n\
     addresses = [\"10.0.0.2\", \"0.0.0.0\"]\nlate = 7\n\n[hosts.a-1]\nshort = 999999999\nlong = 1000000000\n\
     early = 4611686018427387903\naddresses = [\"255.255.255.255\"]\n\n[labels.x]\nhost = \"c\"\nkind = \"log\"\n\n\
     [labels.B]\nhost = \"b\"\nkind = \"capture\"\n\n[[links]]\nfrom = \"b\"\nto = \"a-1\"\nleast = 5\nmost = 9\n\n\
@@ -166,7 +171,7 @@ const WHOLE_SAYS: Wanted = Wanted {
         ("b", 0, 0, 0, 7),
         ("c", 0, 0, 0, 0),
     ],
-    owners: &[(0, 0), (1, 0), (2, 0)],
+    owners: &[(0, 0, 0), (1, 0, 0), (2, 0, 4_611_686_018_427_387_903)],
     addresses: &[(0xffff_ffff, 0), (0x0a00_0002, 1), (0, 1)],
     labels: &[("B", 1, 1, TraceKind::Capture), ("x", 2, 2, TraceKind::Log)],
     links: &[
@@ -177,23 +182,25 @@ const WHOLE_SAYS: Wanted = Wanted {
     payload_bytes: 16,
     tcp_options: true,
     fragments: false,
+    window: Some(4_611_686_018_427_387_903),
     source: Some(1),
 };
 
 const SHORT: &str =
-    "\u{feff}payload_bytes = 0x40\r\ntcp_options = false\r\nfragments = true\r\nhosts = { Z = {}, a = { addresses = ['1.2.3.4'] } } # two\r\nlinks = []\r\n\
+    "\u{feff}payload_bytes = 0x40\r\ntcp_options = false\r\nfragments = true\r\nwindow = 0\r\nhosts = { Z = { offset = -1 }, a = { addresses = ['1.2.3.4'] } } # two\r\nlinks = []\r\n\
     labels.l = { kind = 'log', host = 'Z' }\r\n";
 
 const SHORT_SAYS: Wanted = Wanted {
     hosts: &["Z", "a"],
     clocks: &[("Z", 0, 0, 0, 0), ("a", 0, 0, 0, 0)],
-    owners: &[(0, 0), (1, 0)],
+    owners: &[(0, 0, -1), (1, 0, 0)],
     addresses: &[(0x0102_0304, 1)],
     labels: &[("l", 0, 0, TraceKind::Log)],
     links: &[],
     payload_bytes: 64,
     tcp_options: false,
     fragments: true,
+    window: Some(0),
     source: None,
 };
 
@@ -211,7 +218,7 @@ fn lawful(rt: HostRuntime) {
 }
 
 // Declarations with their first faults.
-const FAULTS: [(&str, u32, Section, u32); 78] = [
+const FAULTS: [(&str, u32, Section, u32); 87] = [
     ("hosts = ", 1, Section::Top, 0),
     ("x = 1\nx = 2", 1, Section::Top, 0),
     ("\u{feff}\u{feff}", 1, Section::Top, 0),
@@ -234,6 +241,35 @@ const FAULTS: [(&str, u32, Section, u32); 78] = [
     ("source = 1\npayload_bytes = 65", 3, Section::Top, 0),
     ("payload_bytes = 65\n[hosts]\na = 1", 5, Section::Top, 0),
     ("payload_bytes = -1", 5, Section::Top, 0),
+    ("window = 1.5\npayload_bytes = 65", 3, Section::Top, 0),
+    ("window = -1", 5, Section::Top, 0),
+    (
+        "window = 4611686018427387904\nhosts = { a = 1 }",
+        5,
+        Section::Top,
+        0,
+    ),
+    ("offset = 1", 2, Section::Top, 0),
+    ("[hosts.a]\nwindow = 1", 2, Section::Hosts, 1),
+    ("[hosts.a]\noffset = '1'\nlong = -1", 3, Section::Hosts, 1),
+    (
+        "[hosts.a]\noffset = 4611686018427387904\naddresses = ['x']",
+        5,
+        Section::Hosts,
+        1,
+    ),
+    (
+        "[hosts.a]\n[hosts.b]\noffset = -4611686018427387904",
+        5,
+        Section::Hosts,
+        2,
+    ),
+    (
+        "[hosts.a]\noffset = -9223372036854775808",
+        5,
+        Section::Hosts,
+        1,
+    ),
     ("hosts = { a = 1, b = { x = 1 } }", 3, Section::Hosts, 1),
     ("[hosts.a]\nshort = 'x'\nspeed = 1", 2, Section::Hosts, 1),
     ("[hosts.a]\nshort = 1.5\nlong = -1", 3, Section::Hosts, 1),

@@ -8,8 +8,8 @@ use std::test::*;
 // Three clocks of the host that comes first by its name, none of which has that name. Numbers that a clock does not have are
 // its host's. The source is a clock by its own name.
 const STEPPED: &str =
-    "source = \"a2\"\n[hosts.b]\nlate = 3\n[hosts.a]\nshort = 4\nlong = 5\nearly = 6\nlate = 7\naddresses = [\"10.0.0.1\"]\n\
-    clocks = [{ name = \"z\" }, { name = \"a2\", short = 0, long = 0, early = 1, late = 2, gap = 4611686018427387903 },\n\
+    "source = \"a2\"\n[hosts.b]\nlate = 3\n[hosts.a]\nshort = 4\nlong = 5\nearly = 6\nlate = 7\noffset = -9\naddresses = [\"10.0.0.1\"]\n\
+    clocks = [{ name = \"z\" }, { name = \"a2\", short = 0, long = 0, early = 1, late = 2, gap = 4611686018427387903, offset = 4 },\n\
     { gap = 8, long = 9, name = \"A\" }]\n\
     [labels.x]\nhost = \"a\"\nkind = \"log\"\n[labels.w]\nhost = \"b\"\nkind = \"log\"\n\
     [labels.y]\nclock = \"A\"\nhost = \"a\"\nkind = \"capture\"\n[labels.z]\nhost = \"b\"\nclock = \"b\"\nkind = \"log\"\n";
@@ -22,7 +22,12 @@ const STEPPED_SAYS: Wanted = Wanted {
         ("A", 4, 9, 6, 7),
         ("b", 0, 0, 0, 3),
     ],
-    owners: &[(0, 0), (0, 4_611_686_018_427_387_903), (0, 8), (1, 0)],
+    owners: &[
+        (0, 0, -9),
+        (0, 4_611_686_018_427_387_903, 4),
+        (0, 8, -9),
+        (1, 0, 0),
+    ],
     addresses: &[(0x0a00_0001, 0)],
     labels: &[
         ("w", 1, 3, TraceKind::Log),
@@ -34,6 +39,7 @@ const STEPPED_SAYS: Wanted = Wanted {
     payload_bytes: 0,
     tcp_options: false,
     fragments: false,
+    window: None,
     source: Some(1),
 };
 
@@ -44,7 +50,7 @@ const EMPTY: &str =
 const EMPTY_SAYS: Wanted = Wanted {
     hosts: &["a"],
     clocks: &[("a", 0, 2, 0, 0)],
-    owners: &[(0, 0)],
+    owners: &[(0, 0, 0)],
     labels: &[("l", 0, 0, TraceKind::Log)],
     ..NOTHING
 };
@@ -57,7 +63,7 @@ const SWAPPED: &str =
 const SWAPPED_SAYS: Wanted = Wanted {
     hosts: &["a", "b"],
     clocks: &[("b", 0, 0, 0, 0), ("c", 0, 0, 0, 0), ("a", 0, 0, 0, 0)],
-    owners: &[(0, 0), (0, 0), (1, 0)],
+    owners: &[(0, 0, 0), (0, 0, 0), (1, 0, 0)],
     labels: &[("a", 1, 2, TraceKind::Log)],
     ..NOTHING
 };
@@ -70,7 +76,7 @@ const SECOND: &str =
 const SECOND_SAYS: Wanted = Wanted {
     hosts: &["a"],
     clocks: &[("b", 1, 0, 0, 0), ("a", 0, 0, 0, 0)],
-    owners: &[(0, 5), (0, 0)],
+    owners: &[(0, 5, 0), (0, 0, 0)],
     labels: &[("l", 0, 0, TraceKind::Log)],
     source: Some(1),
     ..NOTHING
@@ -123,7 +129,7 @@ fn neighbours_follow(rt: HostRuntime) {
 }
 
 // Declarations with their first faults, which are those of hosts if it is not said otherwise.
-const HOSTS: [(&str, u32, u32); 45] = [
+const HOSTS: [(&str, u32, u32); 49] = [
     // a host itself, before its clocks
     ("[hosts.a]\nclock = []", 2, 1),
     ("[hosts.a]\nclocks = 'x'\nspeed = 1", 2, 1),
@@ -198,6 +204,27 @@ const HOSTS: [(&str, u32, u32); 45] = [
     (
         "[hosts.a]\nclocks = [{ name = 'c' }, { name = 'd', gap = 4611686018427387904 }]",
         5,
+        1,
+    ),
+    // an offset is a clock's own, or else the host's, which is to be in its range even where no clock takes it
+    (
+        "[hosts.a]\nclocks = [{ name = 'c', offset = 4611686018427387904 }]",
+        5,
+        1,
+    ),
+    (
+        "[hosts.a]\nclocks = [{ name = 'c', offset = -4611686018427387904 }, 1]",
+        5,
+        1,
+    ),
+    (
+        "[hosts.a]\noffset = 4611686018427387904\nclocks = [{ name = 'c', offset = 1 }, 1]",
+        5,
+        1,
+    ),
+    (
+        "[hosts.a]\nclocks = [{ name = 'c d', offset = true }]",
+        3,
         1,
     ),
     // one clock after another, and then the next host

@@ -1,14 +1,14 @@
-ghost use Rattle.std.specs.Prelude.{◌≤◌, ◌^◌, length, IfSome};
+ghost use Rattle.std.specs.Prelude.{◌≤◌, ◌^◌, length};
 
+use crate::fixtures::declared;
 use arrayvec::ArrayVec;
 use atto::Nano;
 use captures::Packet;
-use decl::{Decl, read_decl};
 use event_log::read_rows;
 use headers::{Network, PacketKey, Transport, UserDatagram};
 use std::alloc::Global;
 use std::test::*;
-use traces::{Event, Key, Mark, NoKey, Side, packet_events, row_events};
+use traces::{Event, Key, Mark, MessageKey, Moment, NoKey, Side, packet_events, row_events};
 
 const FIRST: u32 = 0x0a00_0001;
 
@@ -93,13 +93,7 @@ const REASONS: [(u16, &[u8], NoKey); 7] = [
     ),
 ];
 
-fn declared(alloc: Global, text: &str) -> Option<Decl>
-    ensures { IfSome result (λ d. d.payload_bytes ≤ 64) }
-{
-    read_decl(alloc, text.as_bytes()).ok()
-}
-
-// The event of a packet that was captured at 100 ns.
+// The event of a packet that was captured at 100 ns, by the only clock of its host, which has the host's place.
 fn event_of(alloc: Global, declaration: &str, host: u32, link: u16, frame: &[u8]) -> Option<Event> {
     let decl = declared(alloc, declaration)?;
     let mut bytes = Vec::new(alloc);
@@ -112,7 +106,7 @@ fn event_of(alloc: Global, declaration: &str, host: u32, link: u16, frame: &[u8]
         bytes,
     };
     let packets = Vec::from_array(alloc, [packet]).ok()?;
-    let mut events = packet_events(alloc, &decl, host, &packets).ok()?;
+    let mut events = packet_events(alloc, &decl, host, host, &packets).ok()?;
     events.pop()
 }
 
@@ -152,15 +146,19 @@ fn wide_key() -> PacketKey {
     datagram_key(network, 5000, 6000)
 }
 
+// Whether a key is that of this packet, without a window.
+fn is_packet(key: &Key, wanted: &PacketKey) -> bool {
+    match &key.message {
+        MessageKey::Packet(packet) => packet == wanted && key.moment.is_none(),
+        MessageKey::Word(_) => false,
+    }
+}
+
 fn has_mark(mark: &Mark, wanted: Option<Side>, over: bool) -> bool {
     match (mark, wanted) {
-        (
-            Mark::Keyed {
-                key: Key::Packet(key),
-                side,
-            },
-            Some(wanted),
-        ) => *side == wanted && *key == key_of(over),
+        (Mark::Keyed { key, side }, Some(wanted)) => {
+            *side == wanted && is_packet(key, &key_of(over))
+        }
         (Mark::Unkeyed(reason), None) => *reason == NoKey::Side,
         _ => false,
     }
@@ -180,11 +178,8 @@ fn has_side(alloc: Global, case: &(&str, u32, &[u8], Option<Side>)) -> bool {
 // Whether the packet of IPv6 is marked as this end of a message, with its own key.
 fn has_wide_mark(mark: &Mark, wanted: Side) -> bool {
     match mark {
-        Mark::Keyed {
-            key: Key::Packet(key),
-            side,
-        } => *side == wanted && *key == wide_key(),
-        _ => false,
+        Mark::Keyed { key, side } => *side == wanted && is_packet(key, &wide_key()),
+        Mark::Unkeyed(_) => false,
     }
 }
 
@@ -232,15 +227,19 @@ const ROWS: [Row; 3] = [
     (9, None, "x"),
 ];
 
-fn has_word(mark: &Mark, wanted: Option<(&str, Side)>) -> bool {
+// Whether a key is this word, at this moment.
+fn is_word(key: &Key, wanted: &str, moment: Option<Moment>) -> bool {
+    match &key.message {
+        MessageKey::Packet(_) => false,
+        MessageKey::Word(word) => word.bytes() == wanted.as_bytes() && key.moment == moment,
+    }
+}
+
+fn has_word(mark: &Mark, wanted: Option<(&str, Side)>, moment: Option<Moment>) -> bool {
     match (mark, wanted) {
-        (
-            Mark::Keyed {
-                key: Key::Word(word),
-                side,
-            },
-            Some((text, wanted)),
-        ) => *side == wanted && word.bytes() == text.as_bytes(),
+        (Mark::Keyed { key, side }, Some((text, wanted))) => {
+            *side == wanted && is_word(key, text, moment)
+        }
         (Mark::Unkeyed(reason), None) => *reason == NoKey::Local,
         _ => false,
     }
@@ -250,18 +249,26 @@ fn is_row(event: &Event, wanted: &Row) -> bool {
     match &event.text {
         Some(text) => {
             event.stamp.get() == wanted.0
-                && has_word(&event.mark, wanted.1)
+                && has_word(&event.mark, wanted.1, None)
                 && text.bytes() == wanted.2.as_bytes()
         }
         None => false,
     }
 }
 
+// The events of a log whose rows are stamped by a clock.
+fn rows_of(alloc: Global, declaration: &str, clock: u32, log: &[u8]) -> Option<Vec<Event>>
+    requires { length log.now ≤ 2 ^ 28 }
+{
+    let decl = declared(alloc, declaration)?;
+    let rows = read_rows(alloc, log).ok()?;
+    row_events(alloc, &decl, clock, rows).ok()
+}
+
 fn are_rows(alloc: Global, log: &[u8]) -> Option<bool>
     requires { length log.now ≤ 2 ^ 28 }
 {
-    let rows = read_rows(alloc, log).ok()?;
-    let events = row_events(alloc, rows).ok()?;
+    let events = rows_of(alloc, ALONE, 0, log)?;
     Some(events.len() == ROWS.len() && events.iter().zip(&ROWS).all(|(e, w)| is_row(e, w)))
 }
 
@@ -269,4 +276,30 @@ fn are_rows(alloc: Global, log: &[u8]) -> Option<bool>
 fn rows(rt: HostRuntime) {
     let log = b"5,send,m,\n7,receive,n,hello\n9,local,,x\n";
     assert!(rt; are_rows(rt.alloc(), log) == Some(true));
+}
+
+// A window of 40 ns; the clock of a is 1000 ns ahead, that of b 30 ns behind, and that of c shows true time.
+const TIMED: &str = "window = 40\n[hosts.a]\noffset = 1000\n[hosts.b]\noffset = -30\n[hosts.c]";
+
+// Whether the event of a row at 5 ns of a clock happened at this time, within this window.
+fn happened(alloc: Global, declaration: &str, clock: u32, time: i64, window: u64) -> bool {
+    match rows_of(alloc, declaration, clock, b"5,send,m,\n") {
+        Some(events) => match events.first() {
+            Some(event) => {
+                let moment = Moment { time, window };
+                has_word(&event.mark, Some(("m", Side::Send)), Some(moment))
+            }
+            None => false,
+        },
+        None => false,
+    }
+}
+
+// An offset is taken off, and not added.
+#[test]
+fn moments(rt: HostRuntime) {
+    assert!(rt; happened(rt.alloc(), TIMED, 0, -995, 40));
+    assert!(rt; happened(rt.alloc(), TIMED, 1, 35, 40));
+    assert!(rt; happened(rt.alloc(), TIMED, 2, 5, 40));
+    assert!(rt; !happened(rt.alloc(), TIMED, 0, 1005, 40));
 }

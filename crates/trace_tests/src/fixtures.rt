@@ -4,12 +4,15 @@ ghost use Rattle.decl.specs.Declaration.{IsDeclaration, declaration_of};
 
 use arrayvec::ArrayVec;
 use decl::{Decl, read_decl};
-use event_log::{LogError, read_rows};
+use event_log::{LogError, WordKey, read_rows};
 use headers::{Network, PacketKey, Transport, UserDatagram};
 use problem_model::MOST_EVENTS;
 use reference_traces::{messages_in, missing};
 use std::alloc::{AllocError, Global};
-use traces::{Accepted, Couple, Event, EventId, Side, Stream, event_count, row_events};
+use traces::{
+    Accepted, Couple, Event, EventId, Key, MessageKey, Moment, Side, Stream, event_count,
+    row_events,
+};
 
 pub(crate) const SEND: Side = Side::Send;
 
@@ -19,11 +22,18 @@ pub(crate) const RECEIVE: Side = Side::Receive;
 const THREE_LOGS: &str = "[hosts.a]\n[hosts.b]\n[labels.p]\nhost = \"b\"\nkind = \"log\"\n\
     [labels.q]\nhost = \"a\"\nkind = \"log\"\n[labels.r]\nhost = \"b\"\nkind = \"log\"\n";
 
+// The declaration of a text.
+pub(crate) fn declared(alloc: Global, text: &str) -> Option<Decl>
+    ensures { IfSome result (λ d. IsDeclaration (declaration_of d)) }
+{
+    read_decl(alloc, text.as_bytes()).ok()
+}
+
 // A declaration of logs under three labels.
 pub(crate) fn three_logs(alloc: Global) -> Option<Decl>
     ensures { IfSome result (λ d. IsDeclaration (declaration_of d)) }
 {
-    read_decl(alloc, THREE_LOGS.as_bytes()).ok()
+    declared(alloc, THREE_LOGS)
 }
 
 // The key of a UDP datagram from 10.0.0.1:5000 to 10.0.0.2:6000, whose payload begins so.
@@ -45,6 +55,40 @@ pub(crate) fn packet_key(id: u16, payload: &[u8]) -> Option<PacketKey> {
     })
 }
 
+// How far apart neighbouring events of one key lie at most where their keys have a time, in ns.
+const WINDOW: u64 = 10;
+
+// The moment that a text gives in ns.
+fn moment_at(text: &str) -> Option<Moment> {
+    let time = text.parse::<i64>().ok()?;
+    Some(Moment {
+        time,
+        window: WINDOW,
+    })
+}
+
+// A key without a time: behind a `/` stands the payload of a packet, and any other text is a word.
+fn message_with(text: &str) -> Option<MessageKey> {
+    match text.strip_prefix('/') {
+        Some(payload) => Some(MessageKey::Packet(packet_key(0, payload.as_bytes())?)),
+        None => Some(MessageKey::Word(WordKey::new(text.as_bytes())?)),
+    }
+}
+
+// The key of a text; behind an `@` stands its time.
+pub(crate) fn key_with(text: &str) -> Option<Key> {
+    match text.split_once('@') {
+        Some((message, time)) => Some(Key {
+            message: message_with(message)?,
+            moment: Some(moment_at(time)?),
+        }),
+        None => Some(Key {
+            message: message_with(text)?,
+            moment: None,
+        }),
+    }
+}
+
 // These events, accepted from a piece of so many bytes.
 pub(crate) fn accepted(events: Vec<Event>, size: u64) -> Accepted {
     Accepted {
@@ -54,13 +98,36 @@ pub(crate) fn accepted(events: Vec<Event>, size: u64) -> Accepted {
     }
 }
 
-// What is accepted of a log with this text.
-pub(crate) fn log_of(alloc: Global, text: &str) -> Result<Accepted, LogError> {
+// What is accepted of a log with this text, whose rows are stamped by this clock.
+pub(crate) fn log_of(
+    alloc: Global,
+    decl: &Decl,
+    clock: u32,
+    text: &str,
+) -> Result<Accepted, LogError>
+    requires { IsDeclaration (declaration_of decl.now) }
+{
     if text.len() > 1 << 28 {
         return Err(LogError::Memory);
     }
-    let events = row_events(alloc, read_rows(alloc, text.as_bytes())?)?;
+    let rows = read_rows(alloc, text.as_bytes())?;
+    let events = row_events(alloc, decl, clock, rows)?;
     Ok(accepted(events, text.len() as u64))
+}
+
+// What is accepted of logs with these texts under the labels of a declaration.
+pub(crate) fn logs_of(
+    alloc: Global,
+    decl: &Decl,
+    texts: &[&str; 3],
+) -> Result<Vec<Accepted>, LogError>
+    requires { IsDeclaration (declaration_of decl.now) }
+{
+    let mut logs = Vec::new(alloc);
+    for (label, text) in decl.labels.iter().zip(texts) {
+        logs.push(log_of(alloc, decl, label.clock, text)?)?;
+    }
+    Ok(logs)
 }
 
 // The messages of all labels, by the filters.

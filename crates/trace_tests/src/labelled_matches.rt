@@ -4,15 +4,14 @@ ghost use Rattle.std.specs.Prelude.{OnOk};
 ghost use Rattle.traces.specs.Held.{seen_in};
 ghost use Rattle.reference_traces.specs.Added.{AreAllAdded};
 
-use crate::fixtures::{RECEIVE, SEND, are_messages, by_filters, lost, packet_key, three_logs};
+use crate::fixtures::{RECEIVE, SEND, are_messages, by_filters, key_with, lost, three_logs};
 use atto::Nano;
-use event_log::WordKey;
 use msg_match::{Change, Changed, Group, Matcher, Tallies, counts};
 use reference_traces::Additions;
 use roster::Roster;
 use std::alloc::{AllocError, Global};
 use std::test::*;
-use traces::{Couple, Event, EventId, Key, Mark, NoKey, Side};
+use traces::{Couple, Event, EventId, Mark, NoKey, Side};
 
 // An ambiguous key, and its events by label and number.
 struct Unclear {
@@ -24,8 +23,8 @@ struct Unclear {
 // Events that are added to a label, and what is to follow.
 struct Step {
     label: u32,
-    // Side and key of each; a key with a `/` in front is that of a packet whose payload is the rest, and one without a
-    // letter is none.
+    // Side and key of each; a key with a `/` in front is that of a packet whose payload is the rest, behind an `@` stands its
+    // time in ns, where the window is 10 ns, and one without a letter is none.
     ends: &'static [(Side, &'static str)],
     added: u32,
     withdrawn: u32,
@@ -233,12 +232,148 @@ const APART: [Step; 4] = [
     },
 ];
 
-fn key_with(text: &str) -> Option<Key> {
-    match text.strip_prefix('/') {
-        Some(payload) => Some(Key::Packet(packet_key(0, payload.as_bytes())?)),
-        None => Some(Key::Word(WordKey::new(text.as_bytes())?)),
-    }
-}
+// Three events in a row: the first and the last lie too far apart, until the one between joins them; then they are of no
+// message. A fourth one, far behind, is of another group of the key.
+const IN_A_ROW: [Step; 4] = [
+    Step {
+        label: 1,
+        ends: &[(SEND, "m@0"), (RECEIVE, "m@20")],
+        added: 0,
+        withdrawn: 0,
+        messages: &[],
+        unmatched: 2,
+        unclear: &[],
+    },
+    Step {
+        label: 0,
+        ends: &[(RECEIVE, "m@10")],
+        added: 0,
+        withdrawn: 0,
+        messages: &[],
+        unmatched: 0,
+        unclear: &[Unclear {
+            key: "m@0",
+            sends: &[[1, 1]],
+            receives: &[[0, 1], [1, 2]],
+        }],
+    },
+    Step {
+        label: 2,
+        ends: &[(RECEIVE, "m@31"), (SEND, "m@32")],
+        added: 1,
+        withdrawn: 0,
+        messages: &[[2, 2, 2, 1]],
+        unmatched: 0,
+        unclear: &[Unclear {
+            key: "m@0",
+            sends: &[[1, 1]],
+            receives: &[[0, 1], [1, 2]],
+        }],
+    },
+    // Where no time is told, the key is another one.
+    Step {
+        label: 0,
+        ends: &[(RECEIVE, "m")],
+        added: 0,
+        withdrawn: 0,
+        messages: &[[2, 2, 2, 1]],
+        unmatched: 1,
+        unclear: &[Unclear {
+            key: "m@0",
+            sends: &[[1, 1]],
+            receives: &[[0, 1], [1, 2]],
+        }],
+    },
+];
+
+// Two groups of one key: one of three events, which is ambiguous, and one that is a message. An event may have happened before
+// those that came earlier, and the group then has another beginning.
+const TWO_GROUPS: [Step; 2] = [
+    Step {
+        label: 1,
+        ends: &[
+            (SEND, "m@-30"),
+            (RECEIVE, "m@-38"),
+            (SEND, "m@-20"),
+            (SEND, "m@5"),
+            (RECEIVE, "m@6"),
+            (RECEIVE, "n@-15"),
+        ],
+        added: 1,
+        withdrawn: 0,
+        messages: &[[1, 4, 1, 5]],
+        unmatched: 1,
+        unclear: &[Unclear {
+            key: "m@-38",
+            sends: &[[1, 1], [1, 3]],
+            receives: &[[1, 2]],
+        }],
+    },
+    Step {
+        label: 0,
+        ends: &[(SEND, "n@-25"), (SEND, "n@-26")],
+        added: 0,
+        withdrawn: 0,
+        messages: &[[1, 4, 1, 5]],
+        unmatched: 0,
+        unclear: &[
+            Unclear {
+                key: "m@-38",
+                sends: &[[1, 1], [1, 3]],
+                receives: &[[1, 2]],
+            },
+            Unclear {
+                key: "n@-26",
+                sends: &[[0, 1], [0, 2]],
+                receives: &[[1, 6]],
+            },
+        ],
+    },
+];
+
+// An event that joins two groups withdraws both of their messages; one that lies just the window behind another is of its group.
+const WITHDRAWN: [Step; 3] = [
+    Step {
+        label: 2,
+        ends: &[
+            (SEND, "m@0"),
+            (RECEIVE, "m@10"),
+            (RECEIVE, "m@26"),
+            (SEND, "m@36"),
+        ],
+        added: 2,
+        withdrawn: 0,
+        messages: &[[2, 1, 2, 2], [2, 4, 2, 3]],
+        unmatched: 0,
+        unclear: &[],
+    },
+    Step {
+        label: 0,
+        ends: &[(SEND, "m@18"), (RECEIVE, "m@47")],
+        added: 0,
+        withdrawn: 2,
+        messages: &[],
+        unmatched: 1,
+        unclear: &[Unclear {
+            key: "m@0",
+            sends: &[[0, 1], [2, 1], [2, 4]],
+            receives: &[[2, 2], [2, 3]],
+        }],
+    },
+    Step {
+        label: 1,
+        ends: &[(SEND, "m@57")],
+        added: 1,
+        withdrawn: 0,
+        messages: &[[1, 1, 0, 2]],
+        unmatched: 0,
+        unclear: &[Unclear {
+            key: "m@0",
+            sends: &[[0, 1], [2, 1], [2, 4]],
+            receives: &[[2, 2], [2, 3]],
+        }],
+    },
+];
 
 fn mark(side: Side, text: &str) -> Option<Mark> {
     if text.is_empty() {
@@ -446,4 +581,11 @@ fn additions(rt: HostRuntime) {
     );
     assert!(rt; replay(rt.alloc(), &AT_ONCE) == Ok(true), "at once");
     assert!(rt; replay(rt.alloc(), &APART) == Ok(true), "apart");
+}
+
+#[test]
+fn additions_in_time(rt: HostRuntime) {
+    assert!(rt; replay(rt.alloc(), &IN_A_ROW) == Ok(true), "in a row");
+    assert!(rt; replay(rt.alloc(), &TWO_GROUPS) == Ok(true), "two groups");
+    assert!(rt; replay(rt.alloc(), &WITHDRAWN) == Ok(true), "withdrawn");
 }

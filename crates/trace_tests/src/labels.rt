@@ -1,11 +1,13 @@
-use crate::fixtures::{accepted, are_messages, by_filters, log_of, lost, packet_key};
+use crate::fixtures::{
+    accepted, are_messages, by_filters, declared, logs_of, lost, packet_key, three_logs,
+};
 use atto::Nano;
 use event_log::{LogError, WordKey};
 use problem_model::MOST_EVENTS;
 use reference_traces::messages;
 use std::alloc::{AllocError, Global};
 use std::test::*;
-use traces::{Accepted, Couple, Event, Key, Mark, Side, event_count, events};
+use traces::{Accepted, Couple, Event, Key, Mark, MessageKey, Side, event_count, events};
 
 // The logs of three labels before, and after more was accepted.
 struct Case {
@@ -120,11 +122,8 @@ const CASES: [Case; 9] = [
 ];
 
 fn read_logs(alloc: Global, texts: &[&str; 3]) -> Result<Vec<Accepted>, LogError> {
-    let mut logs = Vec::new(alloc);
-    for text in texts {
-        logs.push(log_of(alloc, text)?)?;
-    }
-    Ok(logs)
+    let decl = three_logs(alloc).ok_or(LogError::Memory)?;
+    logs_of(alloc, &decl, texts)
 }
 
 // The messages of all labels, by way of their events.
@@ -150,6 +149,49 @@ fn holds(alloc: Global, case: &Case) -> Result<bool, LogError> {
 fn messages_of_logs(rt: HostRuntime) {
     for (k, case) in CASES.iter().enumerate() {
         assert!(rt; holds(rt.alloc(), case) == Ok(true), "case {k}");
+    }
+}
+
+// The same labels, with a window of 10 ns. The clock of a, where q is, is 100 ns ahead.
+const TIMED: &str =
+    "window = 10\n[hosts.a]\noffset = 100\n[hosts.b]\n[labels.p]\nhost = \"b\"\nkind = \"log\"\n\
+    [labels.q]\nhost = \"a\"\nkind = \"log\"\n[labels.r]\nhost = \"b\"\nkind = \"log\"\n";
+
+// Logs under it, and their messages.
+const TIMED_CASES: [([&str; 3], &[[u32; 4]]); 6] = [
+    // The offset is taken off, and not added.
+    (["8,receive,m,\n", "105,send,m,\n", ""], &[[1, 1, 0, 1]]),
+    (["208,receive,m,\n", "105,send,m,\n", ""], &[]),
+    // Clocks that disagree by the window at most, and by more than it.
+    (["", "105,send,m,\n", "15,receive,m,\n"], &[[1, 1, 2, 1]]),
+    (["", "105,send,m,\n", "16,receive,m,\n"], &[]),
+    // Two groups of one key.
+    (
+        [
+            "8,receive,m,\n40,receive,m,\n",
+            "105,send,m,\n139,send,m,\n",
+            "",
+        ],
+        &[[1, 1, 0, 1], [1, 2, 0, 2]],
+    ),
+    // Three in a row, of which the first and the last are further apart.
+    (["15,receive,m,\n", "105,send,m,\n", "25,receive,m,\n"], &[]),
+];
+
+fn timed_holds(alloc: Global, texts: &[&str; 3], wanted: &[[u32; 4]]) -> Option<bool> {
+    let decl = declared(alloc, TIMED)?;
+    let logs = logs_of(alloc, &decl, texts).ok()?;
+    let found = by_filters(alloc, &logs).ok()?;
+    Some(are_messages(&found, wanted))
+}
+
+#[test]
+fn messages_in_time(rt: HostRuntime) {
+    for (k, (texts, wanted)) in TIMED_CASES.iter().enumerate() {
+        assert!(rt;
+            timed_holds(rt.alloc(), texts, wanted) == Some(true),
+            "case {k}"
+        );
     }
 }
 
@@ -223,11 +265,19 @@ const MIXED: [Mixed; 4] = [
     },
 ];
 
-fn key_of(known: Known) -> Option<Key> {
+fn message_of(known: Known) -> Option<MessageKey> {
     match known {
-        Known::Packet(id) => Some(Key::Packet(packet_key(id, b"m")?)),
-        Known::Word(text) => Some(Key::Word(WordKey::new(text.as_bytes())?)),
+        Known::Packet(id) => Some(MessageKey::Packet(packet_key(id, b"m")?)),
+        Known::Word(text) => Some(MessageKey::Word(WordKey::new(text.as_bytes())?)),
     }
+}
+
+fn key_of(known: Known) -> Option<Key> {
+    let message = message_of(known)?;
+    Some(Key {
+        message,
+        moment: None,
+    })
 }
 
 fn label_of(alloc: Global, ends: &[(Known, Side)]) -> Option<Accepted> {

@@ -3,16 +3,16 @@ ghost use Rattle.problem_model.specs.Limits.{most_items};
 ghost use Rattle.trace_tests.specs.Numbered.{AreNumberedFrom};
 ghost use Rattle.msg_match.specs.Held.{seen_items};
 
-use crate::fixtures::{RECEIVE, SEND, packet_key};
-use event_log::WordKey;
+use crate::fixtures::{RECEIVE, SEND, key_with};
 use msg_match::{Change, Couple, Group, Item, Matcher, Tallies};
 use std::alloc::{AllocError, Global};
 use std::test::*;
-use traces::{Key, Side};
+use traces::Side;
 
 // What one call adds, and what it is to answer. Events are numbered from 0 on, through all calls of a case.
 struct Step {
-    // Side and key of each event; a key with a `/` in front is that of a packet whose payload is the rest.
+    // Side and key of each event; a key with a `/` in front is that of a packet whose payload is the rest, and behind an `@`
+    // stands its time in ns, where the window is 10 ns.
     events: &'static [(Side, &'static str)],
     added: &'static [(u32, u32)],
     withdrawn: &'static [(u32, u32)],
@@ -114,18 +114,39 @@ const THREE_KEYS: [Step; 3] = [
     },
 ];
 
-fn key(text: &str) -> Option<Key> {
-    match text.strip_prefix('/') {
-        Some(payload) => Some(Key::Packet(packet_key(0, payload.as_bytes())?)),
-        None => Some(Key::Word(WordKey::new(text.as_bytes())?)),
-    }
-}
+// Two groups of one key, each with a message; then an event that joins them, which withdraws both. Events of another key stay
+// apart where their clocks disagree by more than the window.
+const IN_TIME: [Step; 3] = [
+    Step {
+        events: &[
+            (RECEIVE, "m@10"),
+            (SEND, "m@21"),
+            (SEND, "m@0"),
+            (RECEIVE, "m@25"),
+        ],
+        added: &[(2, 0), (1, 3)],
+        withdrawn: &[],
+        tallies: (2, 0, 0),
+    },
+    Step {
+        events: &[(SEND, "k@-5"), (RECEIVE, "k@6"), (SEND, "k")],
+        added: &[],
+        withdrawn: &[],
+        tallies: (2, 3, 0),
+    },
+    Step {
+        events: &[(RECEIVE, "m@15"), (RECEIVE, "k@5")],
+        added: &[],
+        withdrawn: &[(2, 0), (1, 3)],
+        tallies: (0, 1, 8),
+    },
+];
 
 // The event of this number, with this side and the key of a text.
 fn item(event: u32, side: Side, text: &str) -> Option<Item>
     ensures { IfSome result (λ item. item.event ≡ event) }
 {
-    let key = key(text)?;
+    let key = key_with(text)?;
     Some(Item { event, side, key })
 }
 
@@ -201,7 +222,7 @@ fn holds(alloc: Global, steps: &[Step]) -> bool {
 }
 
 fn is_group(found: Option<&Group>, text: &str, sends: &[u32], receives: &[u32]) -> bool {
-    match (found, key(text)) {
+    match (found, key_with(text)) {
         (Some(group), Some(key)) => {
             group.key == key
                 && group.sends.as_slice() == sends
@@ -227,6 +248,7 @@ fn changes(rt: HostRuntime) {
     assert!(rt; holds(rt.alloc(), &AT_ONCE), "at once");
     assert!(rt; holds(rt.alloc(), &APART), "apart");
     assert!(rt; holds(rt.alloc(), &THREE_KEYS), "three keys");
+    assert!(rt; holds(rt.alloc(), &IN_TIME), "in time");
 }
 
 #[test]

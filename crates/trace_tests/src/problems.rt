@@ -1,9 +1,8 @@
 // Worked logs and the problems that they make.
-ghost use Rattle.std.specs.Prelude.{IfSome};
 ghost use Rattle.decl.specs.Declaration.{IsDeclaration, declaration_of};
 
-use crate::fixtures::log_of;
-use decl::{Decl, read_decl};
+use crate::fixtures::{declared, logs_of};
+use decl::Decl;
 use problem::{Problem, read_problem};
 use problem_model::{MOST_EVENTS, Name};
 use reference_traces::{messages_in, problem_of};
@@ -93,19 +92,6 @@ const STEPPED: [([&str; 3], &str); 2] = [
     ),
 ];
 
-fn declared(alloc: Global, text: &str) -> Option<Decl>
-    ensures { IfSome result (λ d. IsDeclaration (declaration_of d)) }
-{
-    read_decl(alloc, text.as_bytes()).ok()
-}
-
-fn logs_of(alloc: Global, texts: &[&str; 3]) -> Option<Vec<Accepted>> {
-    let first = log_of(alloc, texts[0]).ok()?;
-    let second = log_of(alloc, texts[1]).ok()?;
-    let third = log_of(alloc, texts[2]).ok()?;
-    Vec::from_array(alloc, [first, second, third]).ok()
-}
-
 // The problem that these logs make.
 fn made(alloc: Global, decl: &Decl, logs: &[Accepted]) -> Option<Problem>
     requires { IsDeclaration (declaration_of decl.now) }
@@ -122,7 +108,7 @@ fn made(alloc: Global, decl: &Decl, logs: &[Accepted]) -> Option<Problem>
 
 fn made_of(alloc: Global, declaration: &str, texts: &[&str; 3]) -> Option<Problem> {
     let decl = declared(alloc, declaration)?;
-    let logs = logs_of(alloc, texts)?;
+    let logs = logs_of(alloc, &decl, texts).ok()?;
     made(alloc, &decl, &logs)
 }
 

@@ -5,6 +5,7 @@ use problem_model::MOST_EVENTS;
 use roster::Roster;
 use std::alloc::Global;
 use std::test::*;
+use traces::Accepted;
 
 // What is listed: the names of events by place, and clocks and stamps of readings by place.
 #[derive(Drop)]
@@ -65,8 +66,15 @@ const UNKNOWN: [&str; 8] = [
     "r#18446744073709551617",
 ];
 
+// What is accepted of a log under a label of a roster.
+fn log_under(alloc: Global, roster: &Roster, label: u32, text: &str) -> Option<Accepted> {
+    let decl = roster.decl();
+    let label = decl.labels.get(label as usize)?;
+    log_of(alloc, decl, label.clock, text).ok()
+}
+
 fn push_log(alloc: Global, roster: &mut Roster, label: u32, text: &str) -> Option<u32> {
-    let log = log_of(alloc, text).ok()?;
+    let log = log_under(alloc, roster, label, text)?;
     if label as usize >= roster.decl().labels.len()
         || log.events.len() > MOST_EVENTS - roster.len() as usize
     {
