@@ -44,26 +44,27 @@ def problem_of(declared: Declared, counts: dict[str, int], messages: list) -> st
     return "".join(f"{it}\n" for it in [*lines, "end"])
 
 
-def session(declared: Declared) -> tuple[list[str], str]:
-    """The lines of a session that adds rows to the first labels and to the first links, and the problem behind them."""
+def session(declared: Declared) -> tuple[dict[str, int], str]:
+    """The lines that add rows to the first labels and to the first links, with how many messages each of them makes,
+    and the problem behind them."""
     logs = [name for name, (_, kind, _) in declared.labels.items() if kind == "log"][:MOST]
     at = {declared.labels[name][0]: name for name in reversed(logs)}
-    script, counts, messages = [f"add {name} row" for name in logs], dict.fromkeys(logs, 1), []
+    script, counts, messages = {f"add {name} row": 0 for name in logs}, dict.fromkeys(logs, 1), []
     for key, ((one, other), bounds) in enumerate(list(declared.links.items())[:MOST]):
         if one in at and other in at:
             ends = []
-            for kind, label in (("send", at[one]), ("receive", at[other])):
-                script.append(f"add {label} {kind}{key}")
+            for label in (at[one], at[other]):
                 counts[label] += 1
                 ends.append((label, counts[label]))
-            messages.append((ends, bounds))
-    return [*script, "problem"], problem_of(declared, counts, messages)
+            is_message = declared.is_near(*(declared.labels[label][2] for label, _ in ends))
+            script |= {f"add {at[one]} send{key}": 0, f"add {at[other]} receive{key}": int(is_message)}
+            messages += [(ends, bounds)] * is_message
+    return script, problem_of(declared, counts, messages)
 
 
-def is_right(outcome: Outcome, script: list[str], problem: str) -> bool:
+def is_right(outcome: Outcome, script: dict[str, int], problem: str) -> bool:
     """Whether a session has the replies to these additions, and then this problem."""
-    counts = (int(it.split(" ")[2].startswith("receive")) for it in script[:-1])
-    added = "".join(f"added events 1 messages {it} withdrawn 0 pending 0" for it in counts)
+    added = "".join(f"added events 1 messages {it} withdrawn 0 pending 0" for it in script.values())
     said = re.sub(r" (in)?consistent\n", "", outcome.text.removesuffix(problem))
     return outcome.run.status == 0 and said == added and outcome.text.endswith(problem)
 
@@ -84,8 +85,8 @@ class Documents:
         self.count += 1
         self.folder.put("hosts.toml", document)
         declared = wanted or read_declaration(document)
-        script, problem = (["problem"], "") if isinstance(declared, str) else session(declared)
-        self.folder.put("script", "".join(f"{it}\n" for it in script))
+        script, problem = ({}, "") if isinstance(declared, str) else session(declared)
+        self.folder.put("script", "".join(f"{it}\n" for it in [*script, "problem"]))
         outcome = self.folder.run(["session", "hosts.toml"], "script")
         self.slowest = max(self.slowest, (outcome.run.processor, title, len(document)))
         if isinstance(declared, str):
@@ -134,7 +135,11 @@ MORE = [
     "[hosts.a.clocks]\n", "[[hosts.a.clocks]]\nname = 'z'\n", "[hosts.a.clocks.x]\n", "[hosts.a]\n",
     "[hosts.a2]\n", "[hosts.Z]\n", "hosts = 1\n", "[hosts.a.c]\n", "[hosts.b.clocks]\n", "[[hosts.b.clocks]]\n",
 ]  # fmt: skip
-CLOCKS = '[hosts.a]\nlate = 5\nclocks = [{ name = "a1" }, { name = "a2", gap = 5, short = 7 }]\n[hosts.b]\n'
+CLOCKS = """[hosts.a]
+late = 5
+clocks = [{ name = "a1", offset = -3 }, { name = "a2", gap = 5, short = 7 }]
+[hosts.b]
+"""
 
 
 def of_values() -> Iterator[tuple[str, str]]:
@@ -142,6 +147,8 @@ def of_values() -> Iterator[tuple[str, str]]:
     # (what they have in common stands in front, so that it is cut once)
     for value in VALUES:
         yield f"clocks = {value}", f"{LABELS}[hosts.a]\nclocks = {value}\n[hosts.b]\n"
+    for number in NUMBERS:
+        yield f"window = {number}", f"window = {number}\n{LABELS}{CLOCKS}"
     for key in CLOCK_KEYS:
         values: list[int | str] = NUMBERS if key != "name" else ['"x"', "1"]
         for number in values:

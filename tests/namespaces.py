@@ -3,25 +3,30 @@
 
     tests/namespaces.py [--seeds N] [--quick]
 
-Each of N seeds, 10 if it is not said and 2 with --quick, has four cases: captures of all packets; 2 % of the frames
-lost on the way; some doubled and overtaken; and 10 % of the records dropped from each capture, of a way that loses,
-doubles and reorders too. Connections of TCP and datagrams of UDP go both ways, over IPv4 and IPv6, some of these in
-fragments, and over IPv6 some behind extension headers. A session over each two captures is declared with
-`tcp_options` and `fragments`, and with neither.
+Each of N seeds, 10 if it is not said and 2 with --quick, has five cases: captures of all packets; 2 % of the frames
+lost on the way; some doubled and overtaken; 10 % of the records dropped from each capture, of a way that loses, doubles
+and reorders too; and the same where keys come again. In the first four connections of TCP and datagrams of UDP go both
+ways, over IPv4 and IPv6, some of these in fragments, and over IPv6 some behind extension headers. A session over each
+two captures is declared with `tcp_options` and `fragments`, and with neither. In the last case datagrams of UDP over
+IPv4 have few identifications and equal first bytes, so that each key is used ten times, with half a second between two
+uses. A session is declared with a `window` of a quarter of that, and with none.
 
 What is true: one kernel clock stamps both captures, and support/network.py knows which record is a copy of which
-packet. Then the stamps of `b` are moved by hours, and by a rate within the declared one; the program is not told.
+packet. Then the stamps of `b` are moved by hours, and by a rate within the declared one; the program is not told, but
+with a `window` it is told the hours to some 10 ms, by `offset`.
 
 What is wanted: no message joins a send with the receive of another packet, captures are no contradiction, and the
 interval from a send to each receive of it has the real time between them. With the words, and 2 % lost on the way,
-99 % of the TCP segments over IPv6 of which each capture has a copy are messages; where nothing is lost, so is each
-fragment, and each datagram behind extension headers. Two exchanged records and false stamps have to be found out, else
-this test could not fail.
+99 % of the TCP segments over IPv6 of which each capture has one record are messages; where nothing is lost, so is each
+fragment, and each datagram behind extension headers. Where keys come again each datagram of which each capture has one
+record is a message if these lie within the `window`, and without one next to none is. Two exchanged records, false
+stamps, and an `offset` that is false by the time between two uses of a key have to be found out, else this test could
+not fail.
 
 What is assumed: a segment is sent again a tick of its timestamps later, 1 ms, since the box holds each frame longer;
-and datagrams differ in their first eight bytes. Without the words segments without an identification, which are
-those over IPv6, and over IPv4 what Linux answers a SYN by, are known by too little: what is wrong of them is counted,
-and no failure.
+and datagrams differ in their first eight bytes, but for those whose keys come again: of these the box hands on each
+one long before the next. Without the words segments without an identification, which are those over IPv6, and over IPv4
+what Linux answers a SYN by, are known by too little: what is wrong of them is counted, and no failure.
 
 A seed fixes what is drawn, and not when the kernel does what. It needs root, and `ip` of iproute2; without them a line
 says so, and the status is 0. PROGRAM names the program, else it is the one that is built here. It prints what it
@@ -38,30 +43,37 @@ import sys
 import tempfile
 import time
 from collections import Counter
-from collections.abc import Sequence
+from collections.abc import Mapping, Sequence
 from concurrent.futures import Future, ThreadPoolExecutor
 from contextlib import ExitStack
 from dataclasses import dataclass, field, replace
+from enum import Enum
 from random import Random
 
-from support.captures import classic
+from support.captures import classic, frame
 from support.network import ADDRESSES, HOSTS, QUIET, Network, Record, Shares
 from support.problems import UNITS, Problem, units_of
 from support.program import LEFT, program, write
 from support.replies import answered
 
-# How long a socket waits, in seconds.
-PATIENCE = 30
+# How long a socket waits, and how long the box waits for a frame at a time, in seconds.
+PATIENCE, WAIT = 30, 0.01
 # What the clock of `b` may be off, in ns and in parts per billion.
 MOST_OFFSET, MOST_RATE = 4 * 3600 * 10**9, 40_000
 # How wrong a stamp is that has to be found out, in ns.
 WRONG = 10 * 10**9
-# Of the segments that can be messages, how many are.
-LEAST_FOUND = 0.99
+# To how many ns a declaration says how far the clock of `b` is ahead.
+ABOUT = 10_000_000
+# Of the segments that can be messages, how many are; and of what is known by a key that comes again, without a window.
+LEAST_FOUND, MOST_FOUND = 0.99, 0.01
 # As many as conversations have ends, those of datagrams one for both.
 THREADS = 21
 # Datagrams: how many, and how many bytes each has behind its first eight; the wide ones are more than a frame carries.
 FEW, WIDE = (120, range(40)), (30, range(1_500, 6_000))
+# Keys that come again: how many each host has, how often each of them is used, and after how many seconds at least.
+KEYS, USES, BETWEEN = 40, 10, 0.5
+# How far apart events of one key may be that belong together, in ns.
+WINDOW = int(BETWEEN * 10**9) // 4
 # An extension header of IPv6: its next header, which the kernel writes, no more than eight bytes, and options of six
 # bytes that say nothing (RFC 8200).
 EXTENSION = bytes((0, 0, 1, 4)) + bytes(4)
@@ -73,12 +85,14 @@ early = 0
 late = 2
 addresses = ["10.9.0.{1}"]
 addresses6 = ["fd00:0:0:0:0:0:0:{1}"]
-[labels.{0}]
+{2}[labels.{0}]
 host = "{0}"
 kind = "capture"
 """
 LINK = '[[links]]\nfrom = "{}"\nto = "{}"\nleast = 1\n'
 OVER_IPV6, BARE = "TCP over IPv6", "TCP over IPv4 without an identification"
+# What has keys that come again, in their case.
+AGAIN = "UDP over IPv4"
 # What is known by too little without the words.
 ASSUMED = (OVER_IPV6, BARE)
 # What has a key with the words alone, and is one message each where nothing is lost.
@@ -88,16 +102,32 @@ EXTENSIONS, FRAGMENT = (0, 43, 60), 44
 COUNTS = ("packets", "possible", "messages", "false", "ambiguous")
 
 Captures = dict[str, list[Record]]  # by host
+Pairs = list[tuple[str, str]]  # sends and receives
 Turns = Sequence[tuple[int, int]]  # how many bytes are asked, and how many are answered
+
+
+class Words(Enum):
+    """What a declaration says of keys."""
+
+    BOTH = "with tcp_options and fragments"
+    NEITHER = "without tcp_options and fragments"
+    WINDOW = "with a window"
+    NO_WINDOW = "without a window"
 
 
 @dataclass(frozen=True)
 class Case:
-    """What happens on the way, and which share of its records each capture drops."""
+    """What happens on the way, which share of its records each capture drops, and whether keys come again."""
 
     name: str
     shares: Shares
     dropped: float = 0
+    comes_again: bool = False
+
+    @property
+    def words(self) -> tuple[Words, Words]:
+        """What the declarations of both sessions say, of which the first is to find what can be found."""
+        return (Words.WINDOW, Words.NO_WINDOW) if self.comes_again else (Words.BOTH, Words.NEITHER)
 
 
 CASES = [
@@ -105,6 +135,7 @@ CASES = [
     Case("loss", Shares(lost=0.02)),
     Case("doubled and overtaken", Shares(doubled=0.03, overtaken=0.05)),
     Case("dropped records", Shares(lost=0.02, doubled=0.01, overtaken=0.02), 0.1),
+    Case("again", Shares(lost=0.02, doubled=0.01, overtaken=0.02), 0.1, True),
 ]
 
 
@@ -126,9 +157,9 @@ class Found:
         self.contradictions += other.contradictions
         self.outside += other.outside
 
-    def faults(self, has_words: bool) -> list[str]:
+    def faults(self, words: Words) -> list[str]:
         """What is wrong of a session."""
-        told = [kind for kind in self.false if has_words or kind not in ASSUMED]
+        told = [kind for kind in self.false if words is not Words.NEITHER or kind not in ASSUMED]
         wrong = [f"{self.false[kind]} false pairs of {kind}" for kind in told]
         if not self.false:
             wrong += ["a contradiction"] * self.contradictions
@@ -171,6 +202,20 @@ def throw(ends: Sequence[socket.socket], draw: Random, count: int, sizes: range)
             time.sleep(draw.random() * 0.003)
 
 
+def repeat(ends: Sequence[socket.socket], raws: Sequence[socket.socket], draw: Random) -> None:
+    """Sends datagrams from both ends, each with one of few identifications, the same first bytes, and a serial number
+    behind them."""
+    addresses, ports = zip(*(it.getsockname() for it in ends))
+    first, ident = draw.randbytes(8), draw.randrange(1, 1 << 15)
+    with ends[0], ends[1], raws[0], raws[1]:
+        for serial in range(KEYS * USES):
+            word = first + serial.to_bytes(8, "big")
+            for raw, one, other in ((raws[0], 0, 1), (raws[1], 1, 0)):
+                made = frame(1 + one, 1 + other, word, ident + serial % KEYS, (ports[one], ports[other]))
+                raw.sendto(made[14:], (addresses[other], 0))
+            time.sleep(BETWEEN / KEYS)
+
+
 def bound(network: Network, host: str, family: int, kind: int) -> tuple[socket.socket, tuple[str, int]]:
     """A socket of a host, and its address."""
     with network.within(network.spaces[host]):
@@ -210,14 +255,24 @@ def talk(pool: ThreadPoolExecutor, network: Network, draw: Random) -> list[Futur
     return begun
 
 
+def talk_again(pool: ThreadPoolExecutor, network: Network, draw: Random) -> list[Future[None]]:
+    """Begins a conversation by datagrams over IPv4 whose keys come again."""
+    raws = []
+    for host in HOSTS:
+        with network.within(network.spaces[host]):
+            raws.append(socket.socket(socket.AF_INET, socket.SOCK_RAW, socket.IPPROTO_RAW))
+    return [pool.submit(repeat, joined(network, socket.AF_INET, False), raws, draw)]
+
+
 def captured(network: Network, case: Case, draw: Random) -> Captures:
     """What both hosts capture while they talk, from before the first packet until behind the last one."""
     with ThreadPoolExecutor(THREADS) as pool:
-        begun = talk(pool, network, draw)
-        last = time.monotonic()
-        while time.monotonic() < last + QUIET:
-            if network.pass_on(case.shares, draw, 0.01) or not all(it.done() for it in begun):
-                last = time.monotonic()
+        begun = (talk_again if case.comes_again else talk)(pool, network, draw)
+        quiet = 0.0
+        # (what was waited for counts, and not what the clock shows, since this process may be held up)
+        while quiet < QUIET:
+            has_come = network.pass_on(case.shares, draw, WAIT)
+            quiet = 0.0 if has_come or not all(it.done() for it in begun) else quiet + WAIT
         for it in begun:
             it.result()  # (which raises what went wrong)
     taken = network.taken()
@@ -251,36 +306,52 @@ def kind_of(frame: bytes) -> str:
     return f"{protocol} over {family}" if protocol else ""
 
 
-def declaration(has_words: bool) -> str:
-    """What is declared."""
-    hosts = "".join(HOST.format(host, number) for number, host in enumerate(HOSTS, 1))
+def declaration(words: Words, ahead: int) -> str:
+    """What is declared: with a window also that the clock of `b` is so many ns ahead."""
+    said, window = str(words is not Words.NEITHER).lower(), ""
+    offsets = dict.fromkeys(HOSTS, "")
+    if words is Words.WINDOW:
+        window, offsets["b"] = f"window = {WINDOW}\n", f"offset = {ahead}\n"
+    hosts = "".join(HOST.format(host, number, offsets[host]) for number, host in enumerate(HOSTS, 1))
     links = LINK.format(*HOSTS) + LINK.format(*HOSTS[::-1])
-    said = str(has_words).lower()
-    return f"payload_bytes = 8\ntcp_options = {said}\nfragments = {said}\n{hosts}{links}"
+    return f"payload_bytes = 8\ntcp_options = {said}\nfragments = {said}\n{window}{hosts}{links}"
 
 
-def true_pairs(captures: Captures) -> list[tuple[str, str]]:
+def about(captures: Captures) -> int:
+    """About how many ns the clock of `b` is ahead."""
+    first = captures["b"][0]
+    return round((first.stamp - first.time) / ABOUT) * ABOUT
+
+
+def true_pairs(captures: Captures) -> Pairs:
     """The sends and receives that are of one packet."""
     sends = {it.packet: f"{host}#{n}" for host in HOSTS for n, it in enumerate(captures[host], 1) if it.is_send}
     receives = [(it, f"{host}#{n}") for host in HOSTS for n, it in enumerate(captures[host], 1) if not it.is_send]
     return [(sends[it.packet], name) for it, name in receives if it.packet in sends]
 
 
-def judge(folder: str, captures: Captures, has_words: bool) -> Found:
-    """What a session over the captures comes to, beside what is true of them."""
+def near(pairs: Pairs, records: Mapping[str, Record], words: Words, ahead: int) -> Pairs:
+    """Those of these sends and receives that are near enough to each other for the window, if there is one."""
+    times = {name: it.stamp - (ahead if name.startswith("b") else 0) for name, it in records.items()}
+    return [it for it in pairs if words is not Words.WINDOW or abs(times[it[0]] - times[it[1]]) <= WINDOW]
+
+
+def judge(folder: str, captures: Captures, words: Words, ahead: int = 0) -> Found:
+    """What a session over the captures comes to, beside what is true of them; it is told that `b` is so far ahead."""
     found = Found()
     records = {f"{host}#{n}": it for host in HOSTS for n, it in enumerate(captures[host], 1)}
     kinds = {name: kind_of(it.frame) for name, it in records.items()}
     pairs = [it for it in true_pairs(captures) if kinds[it[0]]]
-    path = write(f"{folder}/hosts.toml", declaration(has_words))
+    path = write(f"{folder}/hosts.toml", declaration(words, ahead))
     for host in HOSTS:
         write(f"{folder}/{host}.pcap", classic((it.stamp, it.frame) for it in captures[host]))
     adds = [f"add {host} {folder}/{host}.pcap" for host in HOSTS]
     asked = [f"interval {send} {receive}" for send, receive in pairs]
     _, added, problem, report, *intervals = answered(path, [*adds, "problem", "report", *asked])
     found.packets.update(kinds.values())
-    # (each packet once, of which the other capture has one copy at least)
-    found.possible.update(kinds[send] for send in {send for send, _ in pairs})
+    # (of a packet that came twice neither copy is a message)
+    copies = Counter(send for send, _ in pairs)
+    found.possible.update(kinds[send] for send, receive in near(pairs, records, words, ahead) if copies[send] == 1)
     for send, receive in Problem(problem).messages:
         found.messages[kinds[send]] += 1
         if records[send].packet != records[receive].packet:
@@ -307,7 +378,7 @@ def missed(folder: str, captures: Captures) -> list[str]:
         changed = list(captures["b"])
         for n, it in changes:
             changed[n] = it
-        return judge(folder, {**captures, "b": changed}, True)
+        return judge(folder, {**captures, "b": changed}, Words.BOTH)
 
     at = [n for n, it in enumerate(captures["b"]) if kind_of(it.frame) == "TCP over IPv4" and not it.is_send][:2]
     one, two = (captures["b"][n] for n in at)
@@ -318,39 +389,60 @@ def missed(folder: str, captures: Captures) -> list[str]:
     return [f"not found out: {what}" for what, is_found in found if not is_found]
 
 
-def show(case: Case, has_words: bool, found: Found) -> None:
+def missed_again(folder: str, captures: Captures) -> list[str]:
+    """Wants an offset that is false by the time from a datagram to the next one of its key to be found out."""
+    sends = [it for it in captures["a"] if it.is_send]
+    uses = [it.time for it in sends if it.frame[18:20] == sends[0].frame[18:20]]
+    found = judge(folder, captures, Words.WINDOW, about(captures) + uses[1] - uses[0])
+    return [] if found.false else ["not found out: a false offset"]
+
+
+def show(case: Case, words: Words, found: Found) -> None:
     """Prints what was counted of a case."""
     wrong = f"{found.contradictions} contradictions, {found.outside} intervals beside the truth"
-    print(f"{case.name}, {'with' if has_words else 'without'} tcp_options and fragments: {wrong}")
+    print(f"{case.name}, {words.value}: {wrong}")
     for kind in sorted(filter(None, found.packets)):
         print(f"    {kind:40}", *(f"{getattr(found, it)[kind]:6} {it}" for it in COUNTS), flush=True)
+
+
+def lacking(case: Case, totals: dict[Words, Found]) -> list[str]:
+    """What is wrong of how many messages there are, over all seeds of a case."""
+    full, bare = (totals[words] for words in case.words)
+    least: list[tuple[str, float]] = []
+    if case is CASES[0]:
+        least = [(kind, 1) for kind in APART]
+    elif case.name == "loss":
+        least = [(OVER_IPV6, LEAST_FOUND)]
+    elif case.comes_again:
+        least = [(AGAIN, 1)]
+    wrong = []
+    for kind, share in least:
+        possible, messages = full.possible[kind], full.messages[kind]
+        if not possible or messages < share * possible:
+            wrong.append(f"{case.name}: only {messages} of {possible} are messages of {kind}")
+    if case.comes_again and bare.messages[AGAIN] > MOST_FOUND * bare.possible[AGAIN]:
+        wrong.append(f"{case.name}: {bare.messages[AGAIN]} are messages of {AGAIN} without a window")
+    return wrong
 
 
 def run_case(network: Network, folder: str, case: Case, seeds: int) -> list[str]:
     """Runs a case with all its seeds, and returns what is wrong."""
     wrong: list[str] = []
-    totals = {True: Found(), False: Found()}
+    totals = {words: Found() for words in case.words}
     for seed in range(1, seeds + 1):
         captures = captured(network, case, Random(f"{case.name} {seed}"))
-        for has_words, total in totals.items():
-            found = judge(folder, captures, has_words)
-            faults = [f"{case.name}, seed {seed}: {it}" for it in found.faults(has_words)]
+        for words, total in totals.items():
+            found = judge(folder, captures, words, about(captures))
+            faults = [f"{case.name}, seed {seed}, {words.value}: {it}" for it in found.faults(words)]
             if faults:
                 shutil.copytree(folder, f"{LEFT}/namespaces/{case.name.replace(' ', '_')}-{seed}", dirs_exist_ok=True)
             wrong += faults
             total.add(found)
-        if case is CASES[0] and seed == 1:
-            wrong += missed(folder, captures)
-    for has_words, total in totals.items():
-        show(case, has_words, total)
-    share = totals[True].messages[OVER_IPV6] / max(totals[True].possible[OVER_IPV6], 1)
-    if case.name == "loss" and share < LEAST_FOUND:
-        wrong.append(f"{case.name}: only {share:.2%} of what is possible of {OVER_IPV6} are messages")
-    for kind in APART if case is CASES[0] else ():
-        possible, messages = totals[True].possible[kind], totals[True].messages[kind]
-        if not possible or messages < possible:
-            wrong.append(f"{case.name}: only {messages} of {possible} are messages of {kind}")
-    return wrong
+        if seed == 1 and (case is CASES[0] or case.comes_again):
+            wrong += (missed_again if case.comes_again else missed)(folder, captures)
+    for words, total in totals.items():
+        show(case, words, total)
+    return wrong + lacking(case, totals)
 
 
 def main() -> int:

@@ -5,12 +5,12 @@
 
 SESSIONS, 200 if it is not said, have the numbers from SEED, 1 if it is not said, upward; `random_sessions.py 1 N`
 runs number N alone. Each has up to four hosts with logs of one label and more, which sort otherwise than their hosts;
-some hosts have up to four clocks, one after the other, and their labels name them or not. Rows come late, with lower
-stamps, with stamps that contradict the declared bounds, and with keys that were sent or received before, which
-withdraws messages; events are kept in between. Behind each addition the problem must be the one that a plain model of
-the session has, and what is asked must follow from its text: intervals, orders, times and merges as
-support/problems.py works them out, and, one of each, as `ends` and `solve` print them; certificates must be accepted
-by `verify`, and cycles also by check_cycle.py.
+some hosts have up to four clocks, one after the other, and their labels name them or not; half of the declarations have
+a window, and offsets that are about true or not. Rows come late, with lower stamps, with stamps that contradict the
+declared bounds, and with keys that were sent or received before, which withdraws messages; events are kept in between.
+Behind each addition the problem must be the one that a plain model of the session has, and what is asked must follow
+from its text: intervals, orders, times and merges as support/problems.py works them out, and, one of each, as `ends`
+and `solve` print them; certificates must be accepted by `verify`, and cycles also by check_cycle.py.
 
 PROGRAM names the program whose sessions are tried, else it is the one that is built here; PATH is another one for
 `ends`, `solve` and `verify`. The files of a session that goes wrong stay in tests/out/session-N, and its first wrong
@@ -37,6 +37,10 @@ from support.replies import answered
 NAMES = "abcdefghijklmnopqrstuvw"
 # (clocks of hosts that have several; there is room for the greatest gap between two of them)
 CLOCK_NAMES, GAPS = "ABCDEFGHIJKLMNOPQRSTUVW", (0, 0, 1, 7, 100)
+# How far apart events of one key may be that belong together; rows lie within some 2000 ns.
+WINDOWS = (*[None] * 6, 0, 30, 100, 300, 500, 10_000)
+# What the problem has of a clock.
+RATES = ("short", "long", "early", "late")
 NO_KEYS = ["fragment", "header", "length", "link", "local", "other", "short", "side"]
 
 Row = tuple[int, str, str, str]  # a stamp, a kind, a key and a text
@@ -58,6 +62,9 @@ class Declared:
         self.tables: dict[str, list[dict[str, Any]]] = {}
         for host in self.hosts:
             self.tables[host] = self.drawn_tables(draw, host, names) if draw.random() < 0.5 else []
+        self.window: int | None = draw.choice(WINDOWS)
+        if self.window is not None:
+            self.draw_offsets(draw)
         self.draw_source(draw)
         self.labels: dict[str, str] = {}  # the host of each
         self.clock_of: dict[str, str] = {}
@@ -65,6 +72,12 @@ class Declared:
         self.draw_labels(draw)
         self.links: dict[tuple[str, str], tuple[int, int | None]] = {}
         self.draw_links(draw)
+
+    def draw_offsets(self, draw: Random) -> None:
+        """Draws how far some hosts, and some clocks of theirs, are said to be ahead."""
+        for table in (*self.hosts.values(), *(table for tables in self.tables.values() for table in tables)):
+            if draw.random() < 0.6:
+                table["offset"] = draw.choice((0, draw.randrange(-100, 3000)))
 
     def draw_source(self, draw: Random) -> None:
         """Draws the source, whose clock has no drift."""
@@ -107,7 +120,15 @@ class Declared:
         found = {}
         for host, numbers in self.hosts.items():
             for table in self.tables[host] or [{"name": host}]:
-                found[table["name"]] = tuple(table.get(key, numbers[key]) for key in numbers)
+                found[table["name"]] = tuple(table.get(key, numbers[key]) for key in RATES)
+        return found
+
+    def offsets(self) -> dict[str, int]:
+        """How far each clock is said to be ahead."""
+        found = {}
+        for host, numbers in self.hosts.items():
+            for table in self.tables[host] or [{"name": host}]:
+                found[table["name"]] = table.get("offset", numbers.get("offset", 0))
         return found
 
     def follows(self) -> list[tuple[str, str, int]]:
@@ -125,6 +146,7 @@ class Declared:
     def text(self) -> str:
         """The declaration."""
         lines = [f'source = "{self.source}"'] if self.source else []
+        lines += [] if self.window is None else [f"window = {self.window}"]
         for host, numbers in self.hosts.items():
             lines += [f"[hosts.{host}]", *(f"{key} = {value}" for key, value in numbers.items())]
             for table in self.tables[host]:
@@ -151,17 +173,23 @@ class Traces:
             for at, name in enumerate(names):
                 until = 2000 * (at + 1) // len(names) - gaps[names[at + 1]] - 100 if at + 1 < len(names) else 10**9
                 self.spans[name] = (2000 * at // len(names), until)
-        # (a clock may begin at any number, or start with almost nothing again)
-        self.offsets = {
-            name: 100 + draw.choice((draw.randrange(3000), -first)) for name, (first, _) in self.spans.items()
-        }
+        self.offsets = {name: 100 + self.drawn_offset(name) for name in self.spans}
         self.wrong = draw.choice((0, 0, 0.05, 0.3))
         self.rows: dict[str, list[Row]] = {label: [] for label in declared.labels}
+        # (where there is a window, few keys may serve all messages)
+        keys = 14 if declared.window is None else draw.choice((2, 4, 14))
         for number in range(draw.randint(1, 14)):
-            self.put_message(f"m{number}")
+            self.put_message(f"m{number % keys}")
         for _ in range(draw.randint(0, 4)):
             label = draw.choice([*self.rows])
             self.put(label, self.time(label), "local", "")
+
+    def drawn_offset(self, clock: str) -> int:
+        """How far a clock is ahead: as is said, or it begins at any number, or starts with almost nothing again."""
+        said = self.declared.offsets()[clock]
+        if said and self.draw.random() < 0.6:
+            return said
+        return self.draw.choice((self.draw.randrange(3000), -self.spans[clock][0]))
 
     def time(self, label: str) -> int:
         """A moment at which the clock of a label is that of its host."""
@@ -230,19 +258,36 @@ class Held:
         """The events by label and number: name, label and row."""
         return [(f"{label}#{n}", label, row) for label, rows in self.rows.items() for n, row in enumerate(rows, 1)]
 
-    def by_key(self) -> dict[str, tuple[list[str], list[str]]]:
-        """The sends and the receives of each key, keys as they first come."""
-        found: dict[str, tuple[list[str], list[str]]] = {}
+    def groups(self) -> list[tuple[str, list[str], list[str]]]:
+        """The keys with their sends and their receives, in the order of their first events; where there is a window, a
+        key stands once for each group of its events."""
+        first = self.first_times()
+        found: dict[tuple[str, int], tuple[list[str], list[str]]] = {}
         for name, _, (_, kind, key, _) in self.events():
             if key:
-                found.setdefault(key, ([], []))[kind == "receive"].append(name)
+                found.setdefault((key, first[name]), ([], []))[kind == "receive"].append(name)
+        return [(key, *ends) for (key, _), ends in found.items()]
+
+    def first_times(self) -> dict[str, int]:
+        """When the group of each event with a key begins; without a window all of a key are one group."""
+        window, offsets = self.declared.window, self.declared.offsets()
+        times: dict[str, list[tuple[int, str]]] = {}
+        for name, label, (stamp, _, key, _) in self.events():
+            if key:
+                times.setdefault(key, []).append((stamp - offsets[self.declared.clock_of[label]], name))
+        found: dict[str, int] = {}
+        for own in map(sorted, times.values()):
+            begin = before = own[0][0]
+            for time, name in own:
+                if window is not None and time - before > window:
+                    begin = time
+                found[name], before = begin, time
         return found
 
     def messages(self) -> list[tuple[str, str]]:
         """The messages, in the order of their sends."""
         place = {name: at for at, (name, _, _) in enumerate(self.events())}
-        groups = self.by_key().values()
-        pairs = [(sends[0], receives[0]) for sends, receives in groups if len(sends) == len(receives) == 1]
+        pairs = [(sends[0], receives[0]) for _, sends, receives in self.groups() if len(sends) == len(receives) == 1]
         return sorted(pairs, key=lambda pair: place[pair[0]])
 
     def host(self, name: str) -> str:
@@ -263,8 +308,8 @@ class Held:
 
     def report(self, consistent: bool) -> dict[str, Any]:
         """The object that `report` prints."""
-        groups = self.by_key()
-        ambiguous = [(key, *it) for key, it in groups.items() if all(it) and len(it[0]) + len(it[1]) > 2]
+        groups = self.groups()
+        ambiguous = [it for it in groups if it[1] and it[2] and len(it[1]) + len(it[2]) > 2]
         local = sum(row[1] == "local" for _, _, row in self.events())
         return {
             "ambiguous": [
@@ -275,7 +320,7 @@ class Held:
             "messages": len(self.messages()),
             "nokey": {it: local if it == "local" else 0 for it in NO_KEYS},
             "unmatched": sum(
-                len(sends) + len(receives) for sends, receives in groups.values() if not (sends and receives)
+                len(sends) + len(receives) for _, sends, receives in groups if not (sends and receives)
             ),
         }
 

@@ -30,9 +30,9 @@ CAUSES = {
     8: "the document has more than 2^24 bytes",
 }
 NUMBERS = ("short", "long", "early", "late")
-HOST, CLOCK = {*NUMBERS, "addresses", "addresses6", "clocks"}, {*NUMBERS, "name", "gap"}
+HOST, CLOCK = {*NUMBERS, "offset", "addresses", "addresses6", "clocks"}, {*NUMBERS, "offset", "name", "gap"}
 LABEL, LINK = {"host", "kind", "clock"}, {"from", "to", "least", "most"}
-TOP = {"fragments", "hosts", "labels", "links", "payload_bytes", "source", "tcp_options"}
+TOP = {"fragments", "hosts", "labels", "links", "payload_bytes", "source", "tcp_options", "window"}
 ADDRESS = re.compile(r"(0|[1-9]\d{0,2})(\.(0|[1-9]\d{0,2})){3}")
 ADDRESS6 = re.compile(r"[0-9a-fA-F]{1,4}(:[0-9a-fA-F]{1,4}){7}")
 # A declared rate of so few ppb is a slip mostly: a quartz is off by 1 ppm at least.
@@ -69,7 +69,7 @@ def clocks_of(name: str, host: Table) -> list[tuple[Any, Table, int]]:
 
     A host without tables of clocks is one itself.
     """
-    own = {it: host[it] for it in NUMBERS if it in host}
+    own = {it: host[it] for it in (*NUMBERS, "offset") if it in host}
     tables = [it for it in host.get("clocks", []) if isinstance(it, dict)]
     return [(it.get("name"), {**own, **it}, it.get("gap", 0)) for it in tables] or [(name, own, 0)]
 
@@ -99,6 +99,9 @@ def told_clock(numbers: Table, is_source: bool) -> list[str]:
         parts.append("stamps WITHOUT ANY ERROR: is this meant?")
     else:
         parts.append(f"events are up to {ns(early or 0)} before and {ns(late or 0)} after their stamps")
+    offset = numbers.get("offset", 0)
+    if offset:
+        parts.append(f"for the window it is taken to be {ns(abs(offset))} {'ahead' if offset > 0 else 'behind'}")
     return parts
 
 
@@ -178,6 +181,10 @@ def told_declaration(value: Table) -> list[str]:
         lines.append(told_absent(absent))
     if "source" in value:
         lines.append(f"`time` tells when an event was by the clock {value['source']}.")
+    if "window" in value:
+        lines.append(f"Events of one key belong together where each is at most {ns(value['window'])} behind the one before.")
+    elif any("offset" in it for host in hosts.values() for it in (host, *host.get("clocks", []))):
+        lines.append("No `window` is declared, so that an `offset` DOES NOTHING: is this meant?")
     if any(it.get("kind") == "capture" for it in labels.values()):
         lines.append(f"{value.get('payload_bytes', 0)} bytes of the payload are part of what a packet is known by{', and timestamps and SACK of TCP' if value.get('tcp_options') else ''}.")
         lines += ["Fragments have keys of their own, and packets of IPv6 behind extension headers have keys."] if value.get("fragments") else []
@@ -234,7 +241,7 @@ def top_cause(value: Table, number: int) -> str:
     causes = {
         1: "it is no TOML as the program reads it: a number over 2^63, or a byte that is no UTF-8",
         3: "a value of another kind than it should be",
-        5: "payload_bytes is not from 0 to 64",
+        5: "window is not from 0 to 2^62 - 1" if 0 <= value.get("payload_bytes", 0) <= 64 else "payload_bytes is not from 0 to 64",
         8: "it has more than 2^24 bytes",
     }
     return causes.get(number, f"cause {number}")
@@ -277,9 +284,9 @@ def address_cause(table: Table) -> str:
 
 def out_of_range(table: Table, clock: Optional[str]) -> list[str]:
     """Returns the numbers of a host or of a clock that may not be so, with the clock's name."""
-    most = {"short": 999_999_999, "long": 1_000_000_000}
-    numbers = [it for it in (*NUMBERS, "gap") if isinstance(table.get(it), int)]
-    wrong = [it for it in numbers if not 0 <= table[it] <= most.get(it, 2**62 - 1)]
+    most, least = {"short": 999_999_999, "long": 1_000_000_000}, {"offset": 1 - 2**62}
+    numbers = [it for it in (*NUMBERS, "gap", "offset") if isinstance(table.get(it), int)]
+    wrong = [it for it in numbers if not least.get(it, 0) <= table[it] <= most.get(it, 2**62 - 1)]
     limits = {it: f" above {most[it]:_}" if it in most and table[it] > most[it] else "" for it in wrong}
     return [f"{it}{limits[it]}{f' of {clock}' if clock else ''}" for it in wrong]
 

@@ -17,11 +17,15 @@ TOKEN = re.compile(
     re.DOTALL,
 )
 RATES = {"short": 999_999_999, "long": 1_000_000_000, "early": NANOS - 1, "late": NANOS - 1}
-HOST_KEYS: dict[str, type] = {**{it: int for it in RATES}, "addresses": list, "addresses6": list, "clocks": list}
-CLOCK_KEYS: dict[str, type] = {"name": str, **{it: int for it in RATES}, "gap": int}
+NUMBER_KEYS: dict[str, type] = {**{it: int for it in RATES}, "offset": int}
+HOST_KEYS: dict[str, type] = {**NUMBER_KEYS, "addresses": list, "addresses6": list, "clocks": list}
+CLOCK_KEYS: dict[str, type] = {"name": str, **NUMBER_KEYS, "gap": int}
 LABEL_KEYS = {"host": str, "kind": str, "clock": str}
 LINK_KEYS = {"from": str, "to": str, "least": int, "most": int}
-TOP_KEYS = {"fragments": bool, "hosts": dict, "labels": dict, "links": list, "payload_bytes": int, "source": str, "tcp_options": bool}
+TOP_KEYS = {
+    "fragments": bool, "hosts": dict, "labels": dict, "links": list, "payload_bytes": int, "source": str,
+    "tcp_options": bool, "window": int,
+}  # fmt: skip
 
 Table = dict[str, Any]
 
@@ -118,8 +122,9 @@ def is_number(table: Table, key: str, most: int = NANOS - 1) -> bool:
     return 0 <= table.get(key, 0) <= most
 
 
-def has_rates(table: Table) -> bool:
-    return all(is_number(table, key, most) for key, most in RATES.items())
+def has_numbers(table: Table) -> bool:
+    """Whether the numbers of a clock are in their ranges."""
+    return all(is_number(table, key, most) for key, most in RATES.items()) and abs(table.get("offset", 0)) < NANOS
 
 
 def is_name(name: str) -> bool:
@@ -141,12 +146,14 @@ def address6(text: str) -> tuple[int, ...]:
 
 
 class Declared:
-    """What a table declares: its clocks, follows, labels and links. `at` is the entry that is being read."""
+    """What a table declares: its clocks, follows, labels, links and window. `at` is the entry that is being read."""
 
     def __init__(self) -> None:
         self.at = "top 0"
         self.hosts: dict[str, list[str]] = {}
         self.clocks: dict[str, tuple[int, ...]] = {}
+        self.offsets: dict[str, int] = {}
+        self.window: int | None = None
         self.follows: list[tuple[str, str, int]] = []
         self.labels: dict[str, tuple[str, str, str]] = {}
         self.links: dict[tuple[str, str], tuple[int, int | str]] = {}
@@ -155,7 +162,8 @@ class Declared:
     def read(self, table: Table) -> None:
         """Reads a table. Raises Fault at its first fault."""
         look(table, TOP_KEYS)
-        want(is_number(table, "payload_bytes", 64), 5)
+        want(is_number(table, "payload_bytes", 64) and is_number(table, "window"), 5)
+        self.window = table.get("window")
         for section, read in (("hosts", self.read_host), ("labels", self.read_label)):
             entries = sorted(table.get(section, {}).items(), key=lambda it: it[0].encode())
             for place, (name, it) in enumerate(entries, 1):
@@ -172,7 +180,7 @@ class Declared:
         look(host, HOST_KEYS)
         want(all(type(it) is str for key in ("addresses", "addresses6") for it in host.get(key, [])), 3)
         want(is_name(name), 4)
-        want(has_rates(host) and place <= ENTRIES, 5)
+        want(has_numbers(host) and place <= ENTRIES, 5)
         for key, number in (("addresses", address), ("addresses6", address6)):
             for it in map(number, host.get(key, [])):
                 want(it not in self.addresses, 6)
@@ -188,11 +196,16 @@ class Declared:
     def read_clock(self, host: str, clock: Table, numbers: Table) -> None:
         name, before = clock["name"], self.hosts[host]
         want(is_name(name) and name not in self.clocks, 4)
-        want(has_rates(clock) and is_number(clock, "gap") and len(self.clocks) < ENTRIES, 5)
+        want(has_numbers(clock) and is_number(clock, "gap") and len(self.clocks) < ENTRIES, 5)
         if before:
             self.follows.append((before[-1], name, clock.get("gap", 0)))
         before.append(name)
         self.clocks[name] = tuple(clock.get(key, numbers.get(key, 0)) for key in RATES)
+        self.offsets[name] = clock.get("offset", numbers.get("offset", 0))
+
+    def is_near(self, one: str, other: str) -> bool:
+        """Whether the window, if there is one, takes together events of two clocks that have one stamp."""
+        return self.window is None or abs(self.offsets[one] - self.offsets[other]) <= self.window
 
     def read_label(self, name: str, label: Table, place: int) -> None:
         look(label, LABEL_KEYS, ["host", "kind"])

@@ -17,7 +17,7 @@ from tracesync.numbers import UNITS, read_interval
 from tracesync.problems import read_problem
 from tracesync.refusals import Refusals
 from tracesync.replies import read_added
-from words import REASONS, count_text, least_text, span_text, time_text
+from words import REASONS, count_text, least_text, span_text, time_text, told_again
 
 
 @dataclass
@@ -84,7 +84,8 @@ class Explainer:
         if words[0] in tellers:
             return [tellers[words[0]]()]
         if reply[0].startswith("{"):
-            return [self.report(json.loads(reply[0]))]
+            report = json.loads(reply[0])
+            return [self.report(report), *told_again(report, self.declared, self.path or "the declaration")]
         if read_cycle(reply) is not None:
             return self.told_cycle(reply, self.known_problem(), self.inputs)
         if reply[0] == "certificate 1":

@@ -9,6 +9,7 @@ from ends import declared_own
 from headers import COOKED, COOKED2, TCP, Headers, Key, address_text, decode, end_text
 from inputs import Input
 from texts import plain
+from words import told_again
 
 # Two addresses as a packet has them, its source first.
 Way = tuple[bytes, bytes]
@@ -38,8 +39,8 @@ class Shortfall:
                     self.ways[self.host_of[it.label]][found.source, found.target] += 1
 
     def lines(self) -> list[str]:
-        """Returns what is to be said: of a session without messages all causes, of another one what is there twice."""
-        found = self.doubled()
+        """Returns what is to be said: of a session without messages all causes, of another one what is there twice and what is used again."""
+        found = self.doubled() + told_again(self.report, self.declared, self.path)
         if self.report["messages"]:
             return found
         if len(self.hosts) < 2:

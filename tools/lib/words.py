@@ -1,6 +1,8 @@
 """What a timeline says, in words."""
 
+from collections.abc import Mapping
 from statistics import median_high, median_low
+from typing import Any
 
 from texts import plain
 from timeline import Timeline
@@ -8,6 +10,8 @@ from tracesync.numbers import UNITS, Interval
 
 # Ends lose digits where what is rounded off is more than one part in so many of how far they are apart; below so many ns none are great.
 LOSS, GREAT = 10, 10**6
+# A key with more events is used again: a packet that is there on two interfaces of both its hosts has so many.
+KEY_EVENTS_MOST = 4
 # How many decimals behind the point a number has in units, in seconds and in milliseconds.
 DECIMALS = {"s": 18, "ms": 15}
 REASONS = {
@@ -87,6 +91,17 @@ def greatest_text(units: int | None) -> str:
 
 def count_text(count: int, one: str, many: str | None = None) -> str:
     return f"{count} {one if count == 1 else many or one + 's'}"
+
+
+def told_again(report: Mapping[str, Any], declared: Mapping[str, Any], declaration: str) -> list[str]:
+    """Returns what to write into a declaration that has no window, where most keys are used again."""
+    keys = [len(it["sends"]) + len(it["receives"]) for it in report["ambiguous"]]
+    often = sum(count > KEY_EVENTS_MOST for count in keys)
+    if "window" in declared or 2 * often <= report["messages"] + len(keys):
+        return []
+    told = f"Most keys are used again: {count_text(often, 'key has', 'keys have')} more than {KEY_EVENTS_MOST} events"
+    cure = f"write window = NS at the top of {declaration}, more ns than a message takes and fewer than lie between two uses of a key"
+    return [f"{told}. So {cure}; where clocks differ by as much, write offset = NS at those that are ahead."]
 
 
 class Words:

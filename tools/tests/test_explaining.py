@@ -71,6 +71,12 @@ class Replies(unittest.TestCase):
         for line, reply, wanted in cases:
             self.assertEqual(self.told(line, reply), wanted)
 
+    def test_keys_that_are_used_again(self) -> None:
+        key = '{"key":"k","receives":["b#1","b#2"],"sends":["a#1","a#2","a#3"]}'
+        told = self.told("report", f'{{"ambiguous":[{key}],"consistent":true,"events":5,"messages":0,"nokey":{{}},"unmatched":0}}')
+        self.assertIn("0 messages among 5 events; 1 key with too many events\nMost keys are used again: 1 key has more than 4 events. "
+                      "So write window = NS at the top of the declaration, ", told)  # fmt: skip
+
     def test_refusals_by_the_line(self) -> None:
         cases = (
             ("", "20", "the line is empty"), ("# a", "20", "comments"), ("merge ", "20", "blank too many"), ("merge\r", "20", "carriage return"), ("Merge", "20", "merge is"),
@@ -227,6 +233,8 @@ class Declarations(unittest.TestCase):
             ({"hosts": {"a": {**host, "late": 0}}}, "WITHOUT ANY ERROR"), ({"hosts": {"a": host}, "labels": {"a": {"host": "a", "kind": "capture"}}}, "NO ADDRESS"), ({"hosts": {"a": host, "b": host}}, "No link is declared from a to b"),
             ({"hosts": {"a": host}, "links": [{"from": "a", "to": "a"}]}, "with `least` 0"), ({"hosts": {"a": host}, "links": [{"from": "a", "to": "a", "least": 5, "most": 4}]}, "IS LESS THAN"), ({"hosts": {"a": host}}, "within 50 ppm"),
             ({"hosts": {"a": {**host, "short": 10**9}}}, "IS ABOVE 999_999_999"), ({"hosts": {"a": {**host, "short": 10**10}}}, "IS ABOVE 999_999_999"),
+            ({"hosts": {"a": {**host, "offset": -5000}}, "window": 200_000_000}, "taken to be 5 us behind"), ({"hosts": {"a": {**host, "clocks": [{"name": "b", "offset": 3}]}}, "window": 7}, "taken to be 3 ns ahead"),
+            ({"hosts": {"a": host}, "window": 7}, "at most 7 ns behind"), ({"hosts": {"a": {**host, "clocks": [{"name": "b", "offset": 3}]}}}, "an `offset` DOES NOTHING"),
         )  # fmt: skip
         for value, wanted in cases:
             self.assertIn(wanted, self.told(**value))

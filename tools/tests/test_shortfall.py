@@ -10,7 +10,7 @@ from inputs import Input
 from logs import Log
 from shortfall import Shortfall, unknown_lines
 
-NONE = {"messages": 0, "nokey": {}}
+NONE = {"ambiguous": [], "messages": 0, "nokey": {}}
 LEFT, RIGHT, BOX = "10.3.1.1", "10.3.2.2", "10.3.2.254"
 
 
@@ -88,7 +88,14 @@ class NoMessages(unittest.TestCase):
 
     def test_a_session_with_messages_says_nothing_of_this(self) -> None:
         files = [capture(host, making.classic(conversation(LEFT, RIGHT))) for host in ("e", "f")]
-        self.assertEqual(Shortfall(files, declared(e=[LEFT], f=[RIGHT]), {"messages": 20, "nokey": {"side": 3}}, "hosts.toml").lines(), [])
+        self.assertEqual(Shortfall(files, declared(e=[LEFT], f=[RIGHT]), {**NONE, "messages": 20, "nokey": {"side": 3}}, "hosts.toml").lines(), [])
+
+    def test_keys_that_are_used_again_name_the_window(self) -> None:
+        for counts, messages, top, is_told in (((5, 6), 1, {}, True), ((5, 6), 0, {}, True), ((5, 4), 1, {}, False), ((5, 6), 2, {}, False), ((5, 6), 1, {"window": 0}, False)):
+            report = {"ambiguous": [{"key": "", "sends": ["a#1"], "receives": ["b#1"] * (it - 1)} for it in counts], "messages": messages, "nokey": {}}
+            lines = [it for it in Shortfall([], {**declared(), **top}, report, "hosts.toml").lines() if "window" in it]
+            self.assertEqual([it.startswith("Most keys are used again: 2 keys have more than 4 events. So write window = NS at the top of hosts.toml, ") for it in lines],
+                             [True] * is_told, (counts, messages, top))  # fmt: skip
 
     def test_addresses_that_were_not_found_out_have_words_for_the_declaration(self) -> None:
         pair = (bytes([10, 3, 1, 1]), bytes([10, 3, 2, 2]))
