@@ -391,9 +391,12 @@ def missed(folder: str, captures: Captures) -> list[str]:
 
 def missed_again(folder: str, captures: Captures) -> list[str]:
     """Wants an offset that is false by the time from a datagram to the next one of its key to be found out."""
-    sends = [it for it in captures["a"] if it.is_send]
-    uses = [it.time for it in sends if it.frame[18:20] == sends[0].frame[18:20]]
-    found = judge(folder, captures, Words.WINDOW, about(captures) + uses[1] - uses[0])
+    uses: dict[bytes, list[int]] = {}
+    for it in captures["a"]:
+        if it.is_send:
+            uses.setdefault(it.frame[18:20], []).append(it.time)
+    first, second = max(uses.values(), key=len)[:2]
+    found = judge(folder, captures, Words.WINDOW, about(captures) + second - first)
     return [] if found.false else ["not found out: a false offset"]
 
 
