@@ -1,21 +1,24 @@
 -- The bounds of a problem and those of the widened one, compared.
-use Rattle.std.proofs.Common.{◌≡◌, ◌<◌, ◌≤◌, ◌+◌, ◌-◌, ◌*◌, ◌^◌, ℕ, suc, Bool, true, false, List, [], ◌∷◌, length, map, slice_get, Option, Some, None, refl, sym, ◌∙◌, ap, subst, arith}
-use Rattle.std.specs.Prelude.{All, Contains, ℤ, pos, neg_ℤ, ◌-ℤ◌, ◌≤ℤ◌, if◌then◌else◌, min, ⊤}
+use Rattle.std.proofs.Common.{◌≡◌, ◌≤◌, ◌+◌, ◌-◌, ◌*◌, ◌^◌, ℕ, suc, Bool, true, false, List, [], ◌∷◌, map, slice_get, Option, Some, None, refl, sym, ◌∙◌, ap, subst, arith}
+use Rattle.std.specs.Prelude.{All, ℤ, pos, neg_ℤ, ◌≤ℤ◌, if◌then◌else◌, min, ⊤}
 use Rattle.std.proofs.lemmas.Int.{ints}
-use Rattle.atto.specs.Span.{RateParts, most_of, least_of}
+use Rattle.atto.specs.Span.{most_of, least_of}
 use Rattle.problem_model.specs.declared.items.Clock.{Clock}
 use Rattle.problem_model.specs.declared.items.Event.{Event}
+use Rattle.problem_model.specs.declared.items.Follow.{Follow}
 use Rattle.problem_model.specs.declared.items.Message.{Message}
 use Rattle.problem_model.specs.declared.items.Node.TheVariants as nodes
 use Rattle.problem_model.specs.declared.items.Bound.{Bound}
-use Rattle.problem_model.specs.declared.items.Bound.TheVariants.{SpanMost, SpanLeast, Late, Early, Follow, DelayMost, DelayLeast}
+use Rattle.problem_model.specs.declared.items.Bound.TheVariants as bounds
+use Rattle.problem_model.specs.declared.items.Bound.TheVariants.{SpanMost, SpanLeast, Late, Early, DelayMost, DelayLeast}
 use Rattle.problem_model.specs.Problem.{ProblemLists, ClockFits, FitsLimits}
 use Rattle.problem_model.specs.Bounds.{Constraint, Declares}
 use Rattle.cert_check.specs.declared.what.What.{What}
-use Rattle.cert_check.specs.declared.what.What.TheVariants.{Delays, Least, Stamps, Rates}
-use Rattle.cert_check.specs.Widened.{joins, has_clock, added_to, least_left, widened_most, with_delays, wider_rate, with_wider_rate, with_wider_stamps, widened_clock, clocks_by, widened_clocks, widened_message, widened}
+use Rattle.cert_check.specs.declared.what.What.TheVariants.{Delays, Least, Stamps, Rates, Gaps}
+use Rattle.cert_check.specs.Widened.{joins, has_clock, added_to, least_left, gap_left, with_less_gap, widened_follows, widened_most, with_delays, with_wider_rate, with_wider_stamps, widened_clock, clocks_by, widened_clocks, widened_message, widened}
+use Rattle.cert_check.proofs.GapsLeft.{widened_follow}
 use Rattle.cert_check.proofs.Messages.{some_same}
-use Rattle.cert_check.proofs.Widening.{most_same, contained, widened_from, widened_at, clock_from, ClockGoes, MessageGoes, declared_by}
+use Rattle.cert_check.proofs.Widening.{most_same, contained, widened_from, follow_in, follow_from, widened_at, clock_from, ClockGoes, FollowGoes, declared_by}
 
 -- ---- widened by nothing
 min_same : (n most : ℕ) → n ≤ most → min (n + 0) most ≡ n
@@ -40,6 +43,7 @@ clock_same (Delays which) k c fits = refl
 clock_same (Least which) k c fits = refl
 clock_same (Stamps which) k c fits = either_same (has_clock which k) c (with_wider_stamps 0 c) (stamps_same c fits)
 clock_same (Rates which) k c fits = either_same (has_clock which k) c (with_wider_rate 0 c) (rate_same c fits)
+clock_same Gaps k c fits = refl
 
 each_same : (f : ℕ → Clock → Clock) → ((k : ℕ) (c : Clock) → ClockFits c → f k c ≡ c) → (j : ℕ) (cs : List Clock) → All ClockFits cs → clocks_by f j cs ≡ cs
 each_same f same j [] fit = refl
@@ -52,6 +56,21 @@ clocks_same (Delays which) cs fit = refl
 clocks_same (Least which) cs fit = refl
 clocks_same (Stamps which) cs fit = each_same (widened_clock (Stamps which) 0) (clock_same (Stamps which)) 0 cs fit
 clocks_same (Rates which) cs fit = each_same (widened_clock (Rates which) 0) (clock_same (Rates which)) 0 cs fit
+clocks_same Gaps cs fit = refl
+
+gap_same : (f : Follow) → with_less_gap 0 f ≡ f
+gap_same f = ap (λ (n : ℕ). record { earlier = f.earlier; later = f.later; gap = n }) (let same : f.gap - 0 ≡ f.gap = omega arith in same)
+
+gaps_same : (fs : List Follow) → map (with_less_gap 0) fs ≡ fs
+gaps_same [] = refl
+gaps_same (f ∷ fs) = rw (gap_same f, gaps_same fs) refl
+
+follows_same : (what : What) (fs : List Follow) → widened_follows what 0 fs ≡ fs
+follows_same (Delays which) fs = refl
+follows_same (Least which) fs = refl
+follows_same (Stamps which) fs = refl
+follows_same (Rates which) fs = refl
+follows_same Gaps fs = gaps_same fs
 
 none_added : (b : Bool) (n m : ℕ) → n ≡ 0 → m ≡ 0 → (if b then n else m) ≡ 0
 none_added true n m is is' = is
@@ -62,6 +81,7 @@ added_same (Delays which) events m = none_added (joins which events m) 0 0 refl 
 added_same (Least which) events m = refl
 added_same (Stamps which) events m = refl
 added_same (Rates which) events m = refl
+added_same Gaps events m = refl
 
 none_less : (b : Bool) (n : ℕ) → (if b then n - 0 else n) ≡ n
 none_less true n = omega arith
@@ -72,6 +92,7 @@ least_same (Delays which) events m = refl
 least_same (Least which) events m = none_less (joins which events m) m.least
 least_same (Stamps which) events m = refl
 least_same (Rates which) events m = refl
+least_same Gaps events m = refl
 
 message_unwidened : (what : What) (events : List Event) (m : Message) → widened_message what events 0 m ≡ m
 message_unwidened what events m =
@@ -85,7 +106,8 @@ messages_unwidened what events (m ∷ ms) = rw (message_unwidened what events m,
 
 pub unwidened : (what : What) (p : ProblemLists) → FitsLimits p → widened what p 0 ≡ p
 unwidened what p fits =
-    ap (λ (cs : List Clock). record { clocks = cs; follows = p.follows; events = p.events; messages = map (widened_message what p.events 0) p.messages }) (clocks_same what p.clocks fits.clocks_fit)
+    ap (λ (cs : List Clock). record { clocks = cs; follows = widened_follows what 0 p.follows; events = p.events; messages = map (widened_message what p.events 0) p.messages }) (clocks_same what p.clocks fits.clocks_fit)
+    ∙ ap (λ (fs : List Follow). record { clocks = p.clocks; follows = fs; events = p.events; messages = map (widened_message what p.events 0) p.messages }) (follows_same what p.follows)
     ∙ ap (λ (ms : List Message). record { clocks = p.clocks; follows = p.follows; events = p.events; messages = ms }) (messages_unwidened what p.events p.messages)
 
 -- ---- a bound of the widened problem is one of the problem
@@ -98,8 +120,11 @@ Any v w = ⊤
 
 pub declared_back : (what : What) (p : ProblemLists) (e : ℕ) (b : Bound) (c : Constraint) → Declares (widened what p e) b c → (d : Constraint) × Declares p b d
 declared_back what p e b c declares =
-    let back = declared_by (widened what p e) p.clocks p.messages Any (λ w. tt)
+    let back = declared_by (widened what p e) p.clocks p.follows p.messages Any
     (λ k d at. (let from = clock_from what e p.clocks k d at in (from.0, from.1, record { most = λ n. tt; least = λ n. tt; late = tt; early = tt })))
+    (λ f has. (
+    let from = follow_from what e p.follows f has in
+    (from.0, from.1, record { earlier = ap (λ (v : Follow). v.earlier) (sym from.2); later = ap (λ (v : Follow). v.later) (sym from.2); gap = tt })))
     (λ m has. (
     let from = widened_from (widened_message what p.events e) p.messages m has in (
       from.0,
@@ -136,7 +161,7 @@ ends_same p q events (Late e) c d x y =
 ends_same p q events (Early e) c d x y =
     let one : x.0 ≡ y.0 = event_same q.events e x.0 y.0 (subst (λ (es : List Event). slice_get es e ≡ Some x.0) events x.2) y.2 in
     joined c d _ _ x.4 y.4 refl (ap (λ (v : Event). nodes.Reading v.clock v.stamp) one)
-ends_same p q events (Follow k s l t) c d x y = joined c d _ _ x.6 y.6 refl refl
+ends_same p q events (bounds.Follow k s l t) c d x y = joined c d _ _ x.6 y.6 refl refl
 ends_same p q events (DelayMost send receive) c d x y = joined c d _ _ x.6 y.6 refl refl
 ends_same p q events (DelayLeast send receive) c d x y = joined c d _ _ x.4 y.4 refl refl
 
@@ -185,6 +210,7 @@ clock_narrower (Rates which) e f k c le = either_narrower (has_clock which k) c 
   early = omega arith;
   late = omega arith;
 })
+clock_narrower Gaps e f k c le = same_clock c
 
 units_rise : (a b : ℕ) → a ≤ b → a * 1000000000 ≤ b * 1000000000
 units_rise a b le = omega (arith, le)
@@ -206,6 +232,7 @@ added_rises (Delays which) events e f m le = added_either (joins which events m)
 added_rises (Least which) events e f m le = omega arith
 added_rises (Stamps which) events e f m le = omega arith
 added_rises (Rates which) events e f m le = omega arith
+added_rises Gaps events e f m le = omega arith
 
 left_either : (b : Bool) (n e f : ℕ) → e ≤ f → (if b then n - f else n) ≤ (if b then n - e else n)
 left_either true n e f le = omega (arith, le)
@@ -216,15 +243,36 @@ left_falls (Delays which) events e f m le = omega arith
 left_falls (Least which) events e f m le = left_either (joins which events m) m.least e f le
 left_falls (Stamps which) events e f m le = omega arith
 left_falls (Rates which) events e f m le = omega arith
+left_falls Gaps events e f m le = omega arith
+
+gap_falls : (what : What) (e f n : ℕ) → e ≤ f → gap_left what f n ≤ gap_left what e n
+gap_falls (Delays which) e f n le = omega arith
+gap_falls (Least which) e f n le = omega arith
+gap_falls (Stamps which) e f n le = omega arith
+gap_falls (Rates which) e f n le = omega arith
+gap_falls Gaps e f n le = omega (arith, le)
+
+follow_goes : (what : What) (e f : ℕ) (v : Follow) → e ≤ f → FollowGoes IsMore (widened_follow what f v) (widened_follow what e v)
+follow_goes what e f v le = record {
+  earlier = refl;
+  later = refl;
+  gap = as_less (gap_left what f v.gap * 1000000000) (gap_left what e v.gap * 1000000000) (units_rise (gap_left what f v.gap) (gap_left what e v.gap) (gap_falls what e f v.gap le));
+}
 
 pub declared_less : (what : What) (p : ProblemLists) (e f : ℕ) → e ≤ f → (b : Bound) (c : Constraint) → Declares (widened what p f) b c → (d : Constraint) × Declares (widened what p e) b d × (d.weight ≤ℤ c.weight)
 declared_less what p e f le =
-    declared_by (widened what p f) (widened_clocks what e p.clocks) (map (widened_message what p.events e) p.messages) IsMore (λ w. omega (arith, ints))
+    declared_by (widened what p f) (widened_clocks what e p.clocks) (widened_follows what e p.follows) (map (widened_message what p.events e) p.messages) IsMore
     (λ k d at. (
     let from = clock_from what f p.clocks k d at in (
       widened_clock what e k from.0,
       widened_at what e p.clocks k from.0 from.1,
       subst (λ (v : Clock). ClockGoes IsMore v (widened_clock what e k from.0)) (sym from.2) (clock_goes (widened_clock what f k from.0) (widened_clock what e k from.0) (clock_narrower what e f k from.0 le)),
+    )))
+    (λ v has. (
+    let from = follow_from what f p.follows v has in (
+      widened_follow what e from.0,
+      follow_in what e p.follows from.0 from.1,
+      subst (λ (w : Follow). FollowGoes IsMore w (widened_follow what e from.0)) (sym from.2) (follow_goes what e f from.0 le),
     )))
     (λ m has. (
     let from = widened_from (widened_message what p.events f) p.messages m has in

@@ -1,6 +1,7 @@
 pub mod Judging
 pub mod Times
 pub mod Loops
+pub mod GapsLeft
 pub mod Widening
 pub mod Comparing
 pub mod Messages

@@ -2,6 +2,7 @@
 use Rattle.std.proofs.Common.{◌≡◌, ◌≢◌, ◌<◌, ◌+◌, ◌-◌, ◌*◌, ℕ, zero, suc, Bool, true, false, List, [], ◌∷◌, ◌++◌, length, map, get_or, slice_get, Option, Some, None, refl, sym, ◌∙◌, ap, subst, arith}
 use Rattle.std.specs.Prelude.{All, AllPairs, Contains, ℤ, pos, neg_ℤ, if◌then◌else◌, ⊤}
 use Rattle.std.specs.List.{flat_map}
+use Rattle.std.proofs.lemmas.Int.{ints}
 use Rattle.std.proofs.lemmas.List.{length-map, get_or-map}
 use Rattle.std.proofs.lemmas.Option.{slice_get-get_or, slice_get_within, get_or_from_slice_get}
 use Rattle.atto.specs.Span.{most_of, least_of}
@@ -13,21 +14,23 @@ use Rattle.problem_model.specs.declared.items.Bound.{Bound}
 use Rattle.problem_model.specs.declared.items.Bound.TheVariants as bounds
 use Rattle.problem_model.specs.declared.items.Bound.TheVariants.{SpanMost, SpanLeast, Late, Early, DelayMost, DelayLeast}
 use Rattle.problem_model.specs.declared.items.Node.TheVariants as nodes
-use Rattle.problem_model.specs.Problem.{ProblemLists, IsWellFormed}
+use Rattle.problem_model.specs.Problem.{ProblemLists, LeadsOn, IsWellFormed}
 use Rattle.problem_model.specs.Name.{IsClockName}
-use Rattle.problem_model.specs.Bounds.{Constraint, ClockAt, LinesLead, Declares, Times}
+use Rattle.problem_model.specs.Bounds.{Constraint, ClockAt, LinesLead, ComesAfter, Declares, Times}
 use Rattle.problem_model.specs.Nodes.{Reading, AreReadings}
-use Rattle.problem_model.specs.ShortList.{span_bounds, event_bounds, clocks_before, first_reading, nearest_reading, follow_bound, follow_bounds, most_bound, message_bounds}
+use Rattle.problem_model.specs.ShortList.{span_bounds, event_bounds, follow_bounds, most_bound, message_bounds}
+use Rattle.problem.specs.Nearest.{gap_between}
 use Rattle.cert.specs.declared.chain.Step.{Step}
 use Rattle.cert.specs.CertificateText.{IsStepOf}
 use Rattle.cert_check.specs.declared.verdict.Verdict.{Verdict}
 use Rattle.cert_check.specs.declared.what.Links.TheVariants as links
 use Rattle.cert_check.specs.declared.what.What.{What}
-use Rattle.cert_check.specs.declared.what.What.TheVariants.{Delays, Least, Stamps, Rates}
+use Rattle.cert_check.specs.declared.what.What.TheVariants.{Delays, Least, Stamps, Rates, Gaps}
 use Rattle.cert_check.specs.Reasons.{joining_bounds}
 use Rattle.cert_check.specs.Verdict.{Judges, IsVerdict}
-use Rattle.cert_check.specs.Widened.{has_clock, added_to, widened_most, with_wider_rate, with_wider_stamps, widened_clock, clocks_by, widened_clocks, widened_message, widened}
+use Rattle.cert_check.specs.Widened.{has_clock, added_to, gap_left, widened_follows, widened_most, with_wider_rate, with_wider_stamps, widened_clock, clocks_by, widened_clocks, widened_message, widened}
 use Rattle.cert_check.proofs.Loops.{whole_verdict}
+use Rattle.cert_check.proofs.GapsLeft.{widened_follow, follows_are, listed_same}
 use Rattle.cert_check.proofs.Messages.{some_same}
 use Rattle.cert_check.proofs.Named.{there_is}
 
@@ -46,19 +49,39 @@ messages_same events (m ∷ ms) = rw (message_same events m, messages_same event
 pub not_widened : (p : ProblemLists) → widened (Delays links.All) p 0 ≡ p
 not_widened p = ap (λ (ms : List Message). record { clocks = p.clocks; follows = p.follows; events = p.events; messages = ms }) (messages_same p.events p.messages)
 
--- ---- messages
-module _ (f : Message → Message) where
-  pub contained : (ms : List Message) (m : Message) → Contains ms m → Contains (map f ms) (f m)
-  contained ms m (k, inside, is) = (k, omega (arith, inside, length-map ms f), get_or-map f ms k m (f m) inside ∙ ap f is)
+-- ---- items that are widened each by itself
+module _ {X : Type 0} (f : X → X) where
+  pub contained : (xs : List X) (x : X) → Contains xs x → Contains (map f xs) (f x)
+  contained xs x (k, inside, is) = (k, omega (arith, inside, length-map xs f), get_or-map f xs k x (f x) inside ∙ ap f is)
 
-  -- a widened message is one that was widened
-  pub widened_from : (ms : List Message) (n : Message) → Contains (map f ms) n → (m : Message) × Contains ms m × (n ≡ f m)
-  widened_from [] n (k, inside, is) = absurd (omega (arith, inside))
-  widened_from (m ∷ ms) n (zero, inside, is) = (m, (0, omega arith, refl), sym is)
-  widened_from (m ∷ ms) n (suc k, inside, is) =
-      let rest = widened_from ms n (k, omega (arith, inside), is) in
+  -- a widened item is one that was widened
+  pub widened_from : (xs : List X) (y : X) → Contains (map f xs) y → (x : X) × Contains xs x × (y ≡ f x)
+  widened_from [] y (k, inside, is) = absurd (omega (arith, inside))
+  widened_from (x ∷ xs) y (zero, inside, is) = (x, (0, omega arith, refl), sym is)
+  widened_from (x ∷ xs) y (suc k, inside, is) =
+      let rest = widened_from xs y (k, omega (arith, inside), is) in
       (rest.0, (suc rest.1.0, omega (arith, rest.1.1), rest.1.2), rest.2)
 
+  -- what widening keeps of each, and of each two, all have
+  all_widened : (P : X → Type 0) (xs : List X) → ((x : X) → P x → P (f x)) → All P xs → All P (map f xs)
+  all_widened P xs keeps all k d inside =
+      let within : k < length xs = omega (arith, inside, length-map xs f) in
+      subst P (sym (get_or-map f xs k d d within)) (keeps _ (all k d within))
+
+  pairs_widened : (R : X → X → Type 0) (xs : List X) → ((a b : X) → R a b → R (f a) (f b)) → AllPairs R xs → AllPairs R (map f xs)
+  pairs_widened R xs keeps all i j d below inside =
+      let within : j < length xs = omega (arith, inside, length-map xs f) in
+      subst (λ (b : X). R (get_or (map f xs) i d) b) (sym (get_or-map f xs j d d within))
+      (subst (λ (a : X). R a (f (get_or xs j d))) (sym (get_or-map f xs i d d (omega (arith, below, within)))) (keeps _ _ (all i j d below within)))
+
+-- ---- follows
+pub follow_in : (what : What) (e : ℕ) (fs : List Follow) (f : Follow) → Contains fs f → Contains (widened_follows what e fs) (widened_follow what e f)
+follow_in what e fs f has = subst (λ (gs : List Follow). Contains gs (widened_follow what e f)) (sym (follows_are what e fs)) (contained (widened_follow what e) fs f has)
+
+pub follow_from : (what : What) (e : ℕ) (fs : List Follow) (g : Follow) → Contains (widened_follows what e fs) g → (f : Follow) × Contains fs f × (g ≡ widened_follow what e f)
+follow_from what e fs g has = widened_from (widened_follow what e) fs g (subst (λ (gs : List Follow). Contains gs g) (follows_are what e fs) has)
+
+-- ---- messages
 -- the names of its bounds are the same
 bounds_of_most : (m n : Message) (e : ℕ) (o : Option ℕ) → n.send ≡ m.send → n.receive ≡ m.receive → most_bound n (widened_most e o) ≡ most_bound m o
 bounds_of_most m n e None from to = refl
@@ -92,12 +115,14 @@ widened_at (Delays which) e cs k c at = at
 widened_at (Least which) e cs k c at = at
 widened_at (Stamps which) e cs k c at = from_first (widened_clock (Stamps which) e) cs k c at
 widened_at (Rates which) e cs k c at = from_first (widened_clock (Rates which) e) cs k c at
+widened_at Gaps e cs k c at = at
 
 pub as_long : (what : What) (e : ℕ) (cs : List Clock) → length (widened_clocks what e cs) ≡ length cs
 as_long (Delays which) e cs = refl
 as_long (Least which) e cs = refl
 as_long (Stamps which) e cs = by_long (widened_clock (Stamps which) e) 0 cs
 as_long (Rates which) e cs = by_long (widened_clock (Rates which) e) 0 cs
+as_long Gaps e cs = refl
 
 -- a widened clock is one that was widened
 pub clock_from : (what : What) (e : ℕ) (cs : List Clock) (k : ℕ) (d : Clock) → slice_get (widened_clocks what e cs) k ≡ Some d → (c : Clock) × (slice_get cs k ≡ Some c) × (d ≡ widened_clock what e k c)
@@ -116,27 +141,25 @@ name_same (Delays which) e k c = refl
 name_same (Least which) e k c = refl
 name_same (Stamps which) e k c = name_either (has_clock which k) c (with_wider_stamps e c) refl
 name_same (Rates which) e k c = name_either (has_clock which k) c (with_wider_rate e c) refl
+name_same Gaps e k c = refl
 
 name_at : (what : What) (e : ℕ) (cs : List Clock) (k : ℕ) (d : Clock) → k < length cs → (get_or (widened_clocks what e cs) k d).name ≡ (get_or cs k d).name
 name_at what e cs k d inside =
     let at = widened_at what e cs k (get_or cs k d) (slice_get-get_or cs k d inside) in
     ap (λ (c : Clock). c.name) (get_or_from_slice_get (widened_clocks what e cs) k (widened_clock what e k (get_or cs k d)) d at) ∙ name_same what e k (get_or cs k d)
 
--- the follows of as many clocks
-follows_long : (follows : List Follow) (readings : List Reading) (k : ℕ) (cs ds : List Clock) → length cs ≡ length ds → follow_bounds follows readings k cs ≡ follow_bounds follows readings k ds
-follows_long follows readings k [] [] same = refl
-follows_long follows readings k [] (d ∷ ds) same = absurd (omega (arith, same))
-follows_long follows readings k (c ∷ cs) [] same = absurd (omega (arith, same))
-follows_long follows readings k (c ∷ cs) (d ∷ ds) same =
-    ap (λ (rest : List Bound). follow_bound (nearest_reading readings (clocks_before follows k k)) (first_reading readings k) ++ rest) (follows_long follows readings (k + 1) cs ds (omega (arith, same)))
-
--- ---- from the bounds of a problem to those of another one with the same follows and events
--- what the weights by a clock, and by a message, become
+-- ---- from the bounds of a problem to those of another one with the same events
+-- what the weights by a clock, by a follow and by a message become
 pub record ClockGoes (R : ℤ → ℤ → Type 0) (c d : Clock) : Type 0 where
   pub most : (n : ℕ) → R (pos (most_of c.rate n)) (pos (most_of d.rate n))
   pub least : (n : ℕ) → R (neg_ℤ (pos (least_of c.rate n))) (neg_ℤ (pos (least_of d.rate n)))
   pub late : R (pos (c.late * 1000000000)) (pos (d.late * 1000000000))
   pub early : R (pos (c.early * 1000000000)) (pos (d.early * 1000000000))
+
+pub record FollowGoes (R : ℤ → ℤ → Type 0) (f g : Follow) : Type 0 where
+  pub earlier : g.earlier ≡ f.earlier
+  pub later : g.later ≡ f.later
+  pub gap : R (neg_ℤ (pos (f.gap * 1000000000))) (neg_ℤ (pos (g.gap * 1000000000)))
 
 pub record MessageGoes (R : ℤ → ℤ → Type 0) (m n : Message) : Type 0 where
   pub send : n.send ≡ m.send
@@ -144,18 +167,26 @@ pub record MessageGoes (R : ℤ → ℤ → Type 0) (m n : Message) : Type 0 whe
   pub least : R (neg_ℤ (pos (m.least * 1000000000))) (neg_ℤ (pos (n.least * 1000000000)))
   pub most : (o : ℕ) → m.most ≡ Some o → (o' : ℕ) × (n.most ≡ Some o') × R (pos (o * 1000000000)) (pos (o' * 1000000000))
 
-module _ (p : ProblemLists) (cs : List Clock) (ms : List Message) where
+module _ (p : ProblemLists) (cs : List Clock) (fs : List Follow) (ms : List Message) (R : ℤ → ℤ → Type 0) where
   abbrev other : ProblemLists
-  other = record { clocks = cs; follows = p.follows; events = p.events; messages = ms }
+  other = record { clocks = cs; follows = fs; events = p.events; messages = ms }
 
-  leads_on : (c : ℕ) (lines : List Follow) (d : ℕ) → LinesLead p c lines d → LinesLead other c lines d
-  leads_on c [] d leads = leads
-  leads_on c (f ∷ lines) d leads = (leads.0, leads.1, leads_on f.later lines d leads.2)
+  module _ (follows_go : (f : Follow) → Contains p.follows f → (g : Follow) × Contains fs g × FollowGoes R f g) where
+    leads_on : (c : ℕ) (lines : List Follow) (d : ℕ) → LinesLead p c lines d → (others : List Follow) × LinesLead other c others d
+    leads_on c [] d leads = ([], leads)
+    leads_on c (f ∷ lines) d (has, from, leads) =
+        let there = follows_go f has in
+        let rest = leads_on f.later lines d leads in
+        (there.0 ∷ rest.0, (there.1, there.2.earlier ∙ from, subst (λ (k : ℕ). LinesLead other k rest.0 d) (sym there.2.later) rest.1))
 
-  follow_goes : (k s l t : ℕ) (c : Constraint) → Declares p (bounds.Follow k s l t) c → Declares other (bounds.Follow k s l t) c
-  follow_goes k s l t c d = (d.0, d.1, d.2, (d.3.0, d.3.1, leads_on k (d.3.0 ∷ d.3.1) l d.3.2), d.4, d.5, d.6)
+    pub comes_on : (c d : ℕ) → ComesAfter p c d → ComesAfter other c d
+    comes_on c d (f, lines, (has, from, leads)) =
+        let there = follows_go f has in
+        let rest = leads_on f.later lines d leads in
+        (there.0, rest.0, (there.1, there.2.earlier ∙ from, subst (λ (k : ℕ). LinesLead other k rest.0 d) (sym there.2.later) rest.1))
 
-  module _ (R : ℤ → ℤ → Type 0) (same : (w : ℤ) → R w w) (clocks_go : (k : ℕ) (c : Clock) → ClockAt p k c → (d : Clock) × (slice_get cs k ≡ Some d) × ClockGoes R c d)
+  module _ (clocks_go : (k : ℕ) (c : Clock) → ClockAt p k c → (d : Clock) × (slice_get cs k ≡ Some d) × ClockGoes R c d)
+      (follows_go : (f : Follow) → Contains p.follows f → (g : Follow) × Contains fs g × FollowGoes R f g)
       (messages_go : (m : Message) → Contains p.messages m → (n : Message) × Contains ms n × MessageGoes R m n) where
     pub declared_by : (b : Bound) (c : Constraint) → Declares p b c → (d : Constraint) × Declares other b d × R c.weight d.weight
     declared_by (SpanMost clock s t) c (k, at, is_s, is_t, less, is) =
@@ -182,7 +213,12 @@ module _ (p : ProblemLists) (cs : List Clock) (ms : List Message) where
           (v, there.0, at, there.1, refl),
           subst (λ (a : Constraint). R a.weight (pos (there.0.early * 1000000000))) (sym is) there.2.early,
         )
-    declared_by (bounds.Follow k s l t) c d = (c, follow_goes k s l t c d, same c.weight)
+    declared_by (bounds.Follow k s l t) c (f, has, later, after, is_s, is_t, is) =
+        let there = follows_go f has in (
+          gap_between k s l t there.0.gap,
+          (there.0, there.1, there.2.later ∙ later, comes_on follows_go k l after, is_s, is_t, refl),
+          subst (λ (a : Constraint). R a.weight (neg_ℤ (pos (there.0.gap * 1000000000)))) (sym is) there.2.gap,
+        )
     declared_by (DelayMost send receive) c (m, most, has, from, to, at, is) =
         let there = messages_go m has in
         let greatest = there.2.most most at in (
@@ -205,19 +241,14 @@ module _ (what : What) (p : ProblemLists) (e : ℕ) where
   grow = widened_message what p.events e
 
   -- ---- what is formed well is so when it is widened
-  all_widened : (P : Message → Type 0) → ((m : Message) → P m → P (grow m)) → All P p.messages → All P (map grow p.messages)
-  all_widened P keeps all k d inside =
-      let within : k < length p.messages = omega (arith, inside, length-map p.messages grow) in
-      subst P (sym (get_or-map grow p.messages k d d within)) (keeps _ (all k d within))
-
-  pairs_widened : (R : Message → Message → Type 0) → ((a b : Message) → R a b → R (grow a) (grow b)) → AllPairs R p.messages → AllPairs R (map grow p.messages)
-  pairs_widened R keeps all i j d below inside =
-      let within : j < length p.messages = omega (arith, inside, length-map p.messages grow) in
-      subst (λ (b : Message). R (get_or (map grow p.messages) i d) b) (sym (get_or-map grow p.messages j d d within))
-      (subst (λ (a : Message). R a (grow (get_or p.messages j d))) (sym (get_or-map grow p.messages i d d (omega (arith, below, within)))) (keeps _ _ (all i j d below within)))
-
   long : length q.clocks ≡ length p.clocks
   long = as_long what e p.clocks
+
+  follows_all : (P : Follow → Type 0) → ((f : Follow) → P f → P (widened_follow what e f)) → All P p.follows → All P q.follows
+  follows_all P keeps all = subst (λ (fs : List Follow). All P fs) (sym (follows_are what e p.follows)) (all_widened (widened_follow what e) P p.follows keeps all)
+
+  follows_pairs : (R : Follow → Follow → Type 0) → ((f g : Follow) → R f g → R (widened_follow what e f) (widened_follow what e g)) → AllPairs R p.follows → AllPairs R q.follows
+  follows_pairs R keeps all = subst (λ (fs : List Follow). AllPairs R fs) (sym (follows_are what e p.follows)) (pairs_widened (widened_follow what e) R p.follows keeps all)
 
   pub formed : IsWellFormed p → IsWellFormed q
   formed f = record {
@@ -225,16 +256,16 @@ module _ (what : What) (p : ProblemLists) (e : ℕ) where
     clocks_differ = λ i j d below inside same. (
         let within : j < length p.clocks = omega (arith, inside, long) in
         f.clocks_differ i j d below within (sym (name_at what e p.clocks i d (omega (arith, below, within))) ∙ same ∙ name_at what e p.clocks j d within));
-    follow_ends = λ k d inside. (let ends = f.follow_ends k d inside in (ends.0, (let within = ends.1 in omega (arith, within, long))));
-    earliers_differ = f.earliers_differ;
-    laters_differ = f.laters_differ;
+    follow_ends = follows_all (LeadsOn q.clocks) (λ g x. x) (λ k d inside. (let ends = f.follow_ends k d inside in (ends.0, (let within = ends.1 in omega (arith, within, long)))));
+    earliers_differ = follows_pairs (λ a b. a.earlier ≢ b.earlier) (λ a b x. x) f.earliers_differ;
+    laters_differ = follows_pairs (λ a b. a.later ≢ b.later) (λ a b x. x) f.laters_differ;
     event_names = f.event_names;
     events_differ = f.events_differ;
     event_clocks = λ k d inside. (let within = f.event_clocks k d inside in omega (arith, within, long));
-    sends = all_widened (λ m. m.send < length p.events) (λ m x. x) f.sends;
-    receives = all_widened (λ m. m.receive < length p.events) (λ m x. x) f.receives;
-    two_ends = all_widened (λ m. m.send ≢ m.receive) (λ m x. x) f.two_ends;
-    messages_differ = pairs_widened (λ a b. (a.send ≡ b.send) → (a.receive ≡ b.receive) → ⊥) (λ a b x. x) f.messages_differ;
+    sends = all_widened grow (λ m. m.send < length p.events) p.messages (λ m x. x) f.sends;
+    receives = all_widened grow (λ m. m.receive < length p.events) p.messages (λ m x. x) f.receives;
+    two_ends = all_widened grow (λ m. m.send ≢ m.receive) p.messages (λ m x. x) f.two_ends;
+    messages_differ = pairs_widened grow (λ a b. (a.send ≡ b.send) → (a.receive ≡ b.receive) → ⊥) p.messages (λ a b x. x) f.messages_differ;
   }
 
   -- ---- the nodes are the same
@@ -247,7 +278,7 @@ module _ (what : What) (p : ProblemLists) (e : ℕ) where
   -- ---- the bounds of the short list that join two clocks are the same
   pub joining_same : (readings : List Reading) → joining_bounds q readings ≡ joining_bounds p readings
   joining_same readings =
-      ap (λ (bs : List Bound). bs ++ flat_map message_bounds q.messages) (follows_long p.follows readings 0 q.clocks p.clocks long)
+      ap (λ (bs : List Bound). bs ++ flat_map message_bounds q.messages) (listed_same what e p.follows readings q.clocks p.clocks long)
       ∙ ap (λ (bs : List Bound). follow_bounds p.follows readings 0 p.clocks ++ bs) (bounds_same what p.events e p.messages)
 
   -- ---- a verdict over the short list of the problem is one over that of the widened problem
@@ -258,16 +289,24 @@ module _ (what : What) (p : ProblemLists) (e : ℕ) where
       (subst (λ (bs : List Bound). Judges q x (span_bounds readings ++ event_bounds 0 p.events ++ bs) v) (sym (joining_same readings)) judged)
 
   -- ---- a step of the problem is one of the widened problem
-  pub follow_on : (k s l t : ℕ) (c : Constraint) → Declares p (bounds.Follow k s l t) c → Declares q (bounds.Follow k s l t) c
-  follow_on k s l t c d = follow_goes p q.clocks q.messages k s l t c d
-
   abbrev Any : ℤ → ℤ → Type 0
   Any v w = ⊤
 
+  follows_on : (f : Follow) → Contains p.follows f → (g : Follow) × Contains q.follows g × FollowGoes Any f g
+  follows_on f has = (widened_follow what e f, follow_in what e p.follows f has, record { earlier = refl; later = refl; gap = tt })
+
+  -- by the gap that is left
+  pub follow_on : (k s l t gap : ℕ) → Declares p (bounds.Follow k s l t) (gap_between k s l t gap) → Declares q (bounds.Follow k s l t) (gap_between k s l t (gap_left what e gap))
+  follow_on k s l t gap (f, has, later, after, is_s, is_t, is) =
+      let weights : neg_ℤ (pos (gap * 1000000000)) ≡ neg_ℤ (pos (f.gap * 1000000000)) = ap (λ (a : Constraint). a.weight) is in
+      let same : gap ≡ f.gap = omega (arith, ints, weights) in
+      (widened_follow what e f, follow_in what e p.follows f has, later, comes_on p q.clocks q.follows q.messages Any follows_on k l after, is_s, is_t, ap (λ (n : ℕ). gap_between k s l t (gap_left what e n)) same)
+
   pub declared_on : (b : Bound) (c : Constraint) → Declares p b c → (d : Constraint) × Declares q b d
   declared_on b c d =
-      let on = declared_by p q.clocks q.messages Any (λ w. tt)
+      let on = declared_by p q.clocks q.follows q.messages Any
       (λ k c at. (widened_clock what e k c, widened_at what e p.clocks k c at, record { most = λ n. tt; least = λ n. tt; late = tt; early = tt }))
+      follows_on
       (λ m has. (grow m, contained grow p.messages m has, record { send = refl; receive = refl; least = tt; most = λ o is. (o + added_to what p.events e m, ap (widened_most (added_to what p.events e m)) is, tt) }))
       b c d in
       (on.0, on.1)

@@ -2,6 +2,7 @@
 use Rattle.std.specs.Prelude.{ℕ, ◌+◌, ◌-◌, ◌^◌, min, Bool, true, false, ◌&&◌, ◌==◌, if◌then◌else◌, List, [], ◌∷◌, map, slice_get, Option, Some, None}
 use Rattle.atto.specs.Span.{RateParts}
 use Rattle.problem_model.specs.declared.items.Clock.{Clock}
+use Rattle.problem_model.specs.declared.items.Follow.{Follow}
 use Rattle.problem_model.specs.declared.items.Event.{Event}
 use Rattle.problem_model.specs.declared.items.Message.{Message}
 use Rattle.problem_model.specs.Problem.{ProblemLists}
@@ -11,7 +12,7 @@ use Rattle.cert_check.specs.declared.what.Links.{Links}
 use Rattle.cert_check.specs.declared.what.Links.TheVariants as links
 use Rattle.cert_check.specs.declared.what.Links.TheVariants.{Between}
 use Rattle.cert_check.specs.declared.what.What.{What}
-use Rattle.cert_check.specs.declared.what.What.TheVariants.{Delays, Least, Stamps, Rates}
+use Rattle.cert_check.specs.declared.what.What.TheVariants.{Delays, Least, Stamps, Rates, Gaps}
 
 -- ---- messages
 -- the event has its stamp from this clock
@@ -29,6 +30,7 @@ added_to (Delays which) events e m = if joins which events m then e else 0
 added_to (Least which) events e m = 0
 added_to (Stamps which) events e m = 0
 added_to (Rates which) events e m = 0
+added_to Gaps events e m = 0
 
 -- what is left of its least delay
 abbrev pub least_left : What → List Event → ℕ → Message → ℕ
@@ -36,6 +38,7 @@ least_left (Delays which) events e m = m.least
 least_left (Least which) events e m = if joins which events m then m.least - e else m.least
 least_left (Stamps which) events e m = m.least
 least_left (Rates which) events e m = m.least
+least_left Gaps events e m = m.least
 
 -- a greatest delay that is e ns greater, where there is one
 abbrev pub widened_most : ℕ → Option ℕ → Option ℕ
@@ -70,18 +73,41 @@ widened_clock (Delays which) e k c = c
 widened_clock (Least which) e k c = c
 widened_clock (Stamps which) e k c = if has_clock which k then with_wider_stamps e c else c
 widened_clock (Rates which) e k c = if has_clock which k then with_wider_rate e c else c
+widened_clock Gaps e k c = c
 
 -- clocks from place k on, each as this says of its place
 abbrev pub clocks_by : (ℕ → Clock → Clock) → ℕ → List Clock → List Clock
 clocks_by f k [] = []
 clocks_by f k (c ∷ cs) = f k c ∷ clocks_by f (k + 1) cs
 
--- all clocks widened by e; where messages are widened they stay
+-- all clocks widened by e; where messages or gaps are widened they stay
 abbrev pub widened_clocks : What → ℕ → List Clock → List Clock
 widened_clocks (Delays which) e cs = cs
 widened_clocks (Least which) e cs = cs
 widened_clocks (Stamps which) e cs = clocks_by (widened_clock (Stamps which) e) 0 cs
 widened_clocks (Rates which) e cs = clocks_by (widened_clock (Rates which) e) 0 cs
+widened_clocks Gaps e cs = cs
+
+-- ---- follows
+-- what is left of a gap
+abbrev pub gap_left : What → ℕ → ℕ → ℕ
+gap_left (Delays which) e gap = gap
+gap_left (Least which) e gap = gap
+gap_left (Stamps which) e gap = gap
+gap_left (Rates which) e gap = gap
+gap_left Gaps e gap = gap - e
+
+-- a follow whose gap is e ns less, and not below 0
+abbrev pub with_less_gap : ℕ → Follow → Follow
+with_less_gap e f = record { earlier = f.earlier; later = f.later; gap = f.gap - e }
+
+-- all follows widened by e; where other numbers are widened they stay
+abbrev pub widened_follows : What → ℕ → List Follow → List Follow
+widened_follows (Delays which) e fs = fs
+widened_follows (Least which) e fs = fs
+widened_follows (Stamps which) e fs = fs
+widened_follows (Rates which) e fs = fs
+widened_follows Gaps e fs = map (with_less_gap e) fs
 
 -- ---- problems
 -- the message, widened by e
@@ -90,4 +116,4 @@ widened_message what events e m = with_delays (least_left what events e m) (adde
 
 -- the problem in which what is named is widened by e: ns, or parts per billion of a rate; all else is the same
 abbrev pub widened : What → ProblemLists → ℕ → ProblemLists
-widened what p e = record { clocks = widened_clocks what e p.clocks; follows = p.follows; events = p.events; messages = map (widened_message what p.events e) p.messages }
+widened what p e = record { clocks = widened_clocks what e p.clocks; follows = widened_follows what e p.follows; events = p.events; messages = map (widened_message what p.events e) p.messages }

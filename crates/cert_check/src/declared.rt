@@ -6,10 +6,9 @@ ghost use Rattle.problem_model.specs.Bounds.{Constraint, Declares, ClockAt, Even
 ghost use Rattle.problem.specs.Line.{HasMessageAt};
 ghost use Rattle.problem_model.specs.declared.items.Follow.{Follow};
 ghost use Rattle.cert_check.specs.Walks.{constraint, HasMessageBetween, LeadsTo};
-ghost use Rattle.cert_check.specs.declared.what.What.{What};
 ghost use Rattle.cert_check.specs.Widened.{with_delays, widened};
 
-use crate::what::{What, added_to, clock_in, least_left};
+use crate::what::{What, added_to, clock_in, gap_left, least_left};
 use atto::{Nano, delay_units, span_least, span_most};
 use problem::{NearestFollow, Problem};
 use problem_model::{Bound, Clock, Event, Message, Node};
@@ -184,22 +183,30 @@ fn gap_to(p: &Problem, later: u32) -> Nano
     }
 }
 
-// How long a reading of one clock comes at least before one of a clock that comes after it, by the gap of the follow whose later
-// clock that is. It is the same however the problem is widened.
-fn following(p: &Problem, earlier: u32, s: Nano, later: u32, t: Nano) -> Declaration
+// How long a reading of one clock comes at least before one of a clock that comes after it, by the gap of the follow
+// whose later clock that is, in a problem that is widened.
+fn following(
+    p: &Problem,
+    what: What,
+    extra: Nano,
+    earlier: u32,
+    s: Nano,
+    later: u32,
+    t: Nano,
+) -> Declaration
     requires { (c : Constraint) × Declares p.now (bounds.Follow earlier s later t) c }
-    ensures declares { (what : What) (extra : ℕ) → Declares (widened what p.now extra) (bounds.Follow earlier s later t) (constraint result) }
+    ensures declares { Declares (widened what p.now extra) (bounds.Follow earlier s later t) (constraint result) }
     ensures below { unsigned_abs result.weight < 2 ^ 93 }
 {
     Declaration {
         from: Node::Reading(later, t),
         to: Node::Reading(earlier, s),
-        weight: -delay_units(gap_to(p, later)),
+        weight: -delay_units(gap_left(what, extra, gap_to(p, later))),
     }
 }
 
-/// What `p` declares under the name of a bound, where it is widened by `extra` ns, or parts per billion of rates: its ends, and
-/// its weight, which is below 2^93 in absolute value.
+/// What `p` declares under the name of a bound, where it is widened by `extra` ns, or parts per billion of rates: its
+/// ends, and its weight, which is below 2^93 in absolute value.
 pub fn declared_in(p: &Problem, what: What, extra: Nano, bound: &Bound) -> Declaration
     requires { (c : Constraint) × Declares p.now bound.now c }
     ensures declares { Declares (widened what p.now extra) bound.now (constraint result) }
@@ -221,7 +228,7 @@ pub fn declared_in(p: &Problem, what: What, extra: Nano, bound: &Bound) -> Decla
             s,
             later,
             t,
-        } => following(p, earlier, s, later, t),
+        } => following(p, what, extra, earlier, s, later, t),
         Bound::DelayMost { send, receive } => slowest_between(p, what, extra, send, receive),
         Bound::DelayLeast { send, receive } => quickest_between(p, what, extra, send, receive),
     }

@@ -11,11 +11,10 @@ ghost use Rattle.cert.specs.CertificateText.{HasOneEach};
 ghost use Rattle.cert_check.specs.Reasons.{joining_bounds};
 ghost use Rattle.cert_check.specs.Verdict.{Judges, IsVerdict, AreTimes};
 ghost use Rattle.cert_check.specs.Sizes.{IsSmallVerdict};
-ghost use Rattle.cert_check.specs.declared.what.What.{What};
 ghost use Rattle.cert_check.specs.Widened.{with_delays, widened};
 
 use crate::declared::{listed_bound, widened_units};
-use crate::what::{Links, What, added_to, clock_in, least_left, no_extra};
+use crate::what::{Links, What, added_to, clock_in, gap_left, least_left, no_extra};
 use atto::{Nano, Units, delay_units, span_least, span_most};
 use cert::Execution;
 use problem::Problem;
@@ -242,12 +241,11 @@ fn judge_messages(p: &Problem, what: What, extra: Nano, e: &Execution) -> Verdic
     Verdict::Obeys
 }
 
-// Judges the follow of the short list whose later clock this is, where there is one. It is that of the problem however it is
-// widened.
-fn judge_follow(p: &Problem, e: &Execution, later: u32) -> Verdict
+// Judges the follow of the short list whose later clock this is, where there is one, in a problem that is widened.
+fn judge_follow(p: &Problem, what: What, extra: Nano, e: &Execution, later: u32) -> Verdict
     requires each { HasOneEach p.now e.now }
     requires later { later < length p.now.clocks }
-    ensures verdict { (what : What) (extra : ℕ) (x : Times) (readings : List Reading) → AreTimes p.now x readings e.now
+    ensures verdict { (x : Times) (readings : List Reading) → AreTimes p.now x readings e.now
         → Judges (widened what p.now extra) x (follow_bound (nearest_reading readings (clocks_before p.now.follows later later)) (first_reading readings later)) result }
     ensures small { IsSmallVerdict result }
 {
@@ -258,20 +256,21 @@ fn judge_follow(p: &Problem, e: &Execution, later: u32) -> Verdict
             let from = reading_time(p, e, place_of(p, later, follow.t));
             let to = reading_time(p, e, place_of(p, follow.earlier, follow.s));
             let bound = listed_bound(later, &follow);
-            judge(bound, -delay_units(follow.gap), from, to)
+            let gap = gap_left(what, extra, follow.gap);
+            judge(bound, -delay_units(gap), from, to)
         }
         None => Verdict::Obeys,
     }
 }
 
-// Judges the follows of the short list, which are those of the problem however it is widened.
-fn judge_follows(p: &Problem, e: &Execution) -> Verdict
+// Judges the follows of the short list in a problem that is widened.
+fn judge_follows(p: &Problem, what: What, extra: Nano, e: &Execution) -> Verdict
     requires { HasOneEach p.now e.now }
-    ensures verdict { (what : What) (extra : ℕ) (x : Times) (readings : List Reading) → AreTimes p.now x readings e.now → Judges (widened what p.now extra) x (follow_bounds p.now.follows readings 0 p.now.clocks) result }
+    ensures verdict { (x : Times) (readings : List Reading) → AreTimes p.now x readings e.now → Judges (widened what p.now extra) x (follow_bounds p.now.follows readings 0 p.now.clocks) result }
     ensures small { IsSmallVerdict result }
 {
     for later in 0..p.clocks().len() as u32 {
-        match judge_follow(p, e, later) {
+        match judge_follow(p, what, extra, e, later) {
             Verdict::Obeys => {}
             broken => return broken,
         }
@@ -285,16 +284,16 @@ fn judge_joining(p: &Problem, what: What, extra: Nano, e: &Execution) -> Verdict
     ensures verdict { (x : Times) (readings : List Reading) → AreTimes p.now x readings e.now → Judges (widened what p.now extra) x (joining_bounds p.now readings) result }
     ensures small { IsSmallVerdict result }
 {
-    match judge_follows(p, e) {
+    match judge_follows(p, what, extra, e) {
         Verdict::Obeys => judge_messages(p, what, extra, e),
         broken => broken,
     }
 }
 
-/// Whether an execution of `p` obeys every bound that `p` declares where it is widened by `extra` ns, or parts per billion of
-/// rates, between every two readings of a clock and of clocks that come after each other; else the first bound of the short
-/// list that it breaks. Its weight, which is that of the widened problem, is below 2^93 in absolute value, and the
-/// difference at most 2^121. It takes no memory.
+/// Whether an execution of `p` obeys every bound that `p` declares where it is widened by `extra` ns, or parts per
+/// billion of rates, between every two readings of a clock and of clocks that come after each other; else the first
+/// bound of the short list that it breaks. Its weight, which is that of the widened problem, is below 2^93 in absolute
+/// value, and the difference at most 2^121. It takes no memory.
 pub fn obeys_widened(p: &Problem, what: What, extra: Nano, e: &Execution) -> Verdict
     requires { HasOneEach p.now e.now }
     ensures verdict { (x : Times) → Lists p.now x e.now → IsVerdict (widened what p.now extra) x result }

@@ -68,7 +68,8 @@ fn onward(part: Part, held: Held, bound: &Declaration, taken: usize) -> Held
 }
 
 /// Walks over the steps from a node, in an upper part against their bounds and elsewhere along them. Each step must be
-/// entered where the walk has come to, and have the weight of its bound where the problem is widened by `extra`. The sum of all is below 2^116 in absolute value. It takes no memory.
+/// entered where the walk has come to, and have the weight of its bound where the problem is widened by `extra`. The
+/// sum of all is below 2^116 in absolute value. It takes no memory.
 pub fn walk_over(
     p: &Problem,
     what: What,

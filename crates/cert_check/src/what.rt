@@ -1,7 +1,7 @@
 // What of a problem is widened.
 ghost use Rattle.std.specs.Prelude.{◌≡◌, ◌<◌, ◌≤◌, ◌+◌, ◌-◌, ◌^◌, min, length};
 ghost use Rattle.problem_model.specs.Bounds.{ClockAt};
-ghost use Rattle.cert_check.specs.Widened.{is_on, joins, has_clock, least_left, added_to, wider_rate, with_wider_rate, with_wider_stamps, widened_clock, widened};
+ghost use Rattle.cert_check.specs.Widened.{is_on, joins, has_clock, least_left, added_to, gap_left, wider_rate, with_wider_rate, with_wider_stamps, widened_clock, widened};
 
 use atto::{Nano, Rate};
 use problem::Problem;
@@ -36,6 +36,8 @@ pub enum What {
     Stamps(Clocks),
     /// Rates may be off by so many parts per billion more in either direction, as far as a `Rate` may.
     Rates(Clocks),
+    /// Gaps between clocks that follow each other are so many ns less, and not below 0.
+    Gaps,
 }
 
 /// The widening of a problem that is not widened.
@@ -134,6 +136,7 @@ fn widened_clock(what: What, extra: Nano, place: u32, clock: &Clock) -> Clock
                 *clock
             }
         }
+        What::Gaps => *clock,
     }
 }
 
@@ -183,6 +186,7 @@ pub fn added_to(p: &Problem, what: What, extra: Nano, message: &Message) -> Nano
         What::Least(_) => no_extra(),
         What::Stamps(_) => no_extra(),
         What::Rates(_) => no_extra(),
+        What::Gaps => no_extra(),
     }
 }
 
@@ -213,5 +217,19 @@ pub fn least_left(p: &Problem, what: What, extra: Nano, message: &Message) -> Na
         What::Delays(_) => message.least,
         What::Stamps(_) => message.least,
         What::Rates(_) => message.least,
+        What::Gaps => message.least,
+    }
+}
+
+/// The gap of a follow in a problem that is widened.
+pub fn gap_left(what: What, extra: Nano, gap: Nano) -> Nano
+    ensures { result ≡ gap_left what extra gap }
+{
+    match what {
+        What::Gaps => shorter(gap, extra),
+        What::Delays(_) => gap,
+        What::Least(_) => gap,
+        What::Stamps(_) => gap,
+        What::Rates(_) => gap,
     }
 }

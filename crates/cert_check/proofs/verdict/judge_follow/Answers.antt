@@ -9,7 +9,7 @@ use Rattle.problem_model.specs.ShortList.{ObeysNamed}
 use Rattle.problem.specs.Nearest.{listed_follow, gap_between}
 use Rattle.cert_check.specs.declared.verdict.Verdict.TheVariants.{Obeys}
 use Rattle.cert_check.specs.Verdict.{Judges}
-use Rattle.cert_check.specs.Widened.{widened}
+use Rattle.cert_check.specs.Widened.{gap_left, widened}
 use Rattle.cert_check.proofs.Widening.{formed, follow_on}
 use Rattle.cert_check.proofs.verdict.judge_follow.Goals as goal
 
@@ -26,22 +26,23 @@ pub reading_time-to-requires-clause-within : goal.reading_time-to-requires-claus
 reading_time-to-requires-clause-within c = λ readings are. slice_get_within {A = Reading} readings c.place_of-in-Some.result (c.in-Some.follow.earlier, c.in-Some.follow.s) (c.place_of-in-Some.ensures readings are)
 
 pub returns-in-Some-clause-verdict : goal.returns-in-Some-clause-verdict
-returns-in-Some-clause-verdict c = λ what extra x readings times.
+returns-in-Some-clause-verdict c = λ x readings times.
     let p = c.args.p.now in
-    let q = widened what p extra in
+    let w = c.args.what in
+    let e = c.args.extra in
+    let q = widened w p e in
     let later = c.args.later in
     let f = c.in-Some.follow in
-    let a : Constraint = gap_between f.earlier f.s later f.t f.gap in
+    let a : Constraint = gap_between f.earlier f.s later f.t (gap_left w e f.gap) in
     let named = c.listed_bound-bound.ensures in
-    let declares = follow_on what p extra f.earlier f.s later f.t a (rw c.in-Some.is at c.nearest_follow.ensures.declared) in
+    let declares = follow_on w p e f.earlier f.s later f.t f.gap (rw c.in-Some.is at c.nearest_follow.ensures.declared) in
     let from = c.reading_time-from.ensures x readings (later, f.t) times (c.place_of.ensures readings times.are_readings) in
     let to = c.reading_time-to.ensures x readings (f.earlier, f.s) times (c.place_of-in-Some.ensures readings times.are_readings) in
-    let judged = c.judge.ensures.verdict q x a (formed what p extra c.clocks.ensures.lawful.formed) (subst (λ (b : Bound). Declares q b a) (sym named) declares) (omega (arith, ints, c.delay_units.ensures.exact)) from to in
+    let judged = c.judge.ensures.verdict q x a (formed w p e c.clocks.ensures.lawful.formed) (subst (λ (b : Bound). Declares q b a) (sym named) declares) (omega (arith, ints, c.gap_left-gap.ensures, c.delay_units.ensures.exact)) from to in
     subst (λ (bs : List Bound). Judges q x bs c.judge.result) (sym (c.nearest_follow.ensures.bound readings times.are_readings ∙ ap (listed_follow later) c.in-Some.is))
     (subst (λ (b : Bound). Judges q x (b ∷ []) c.judge.result) named judged)
 
 pub returns-in-None-clause-verdict : goal.returns-in-None-clause-verdict
-returns-in-None-clause-verdict c = λ what extra x readings times.
-    let p = c.args.p.now in
-    let q = widened what p extra in
+returns-in-None-clause-verdict c = λ x readings times.
+    let q = widened c.args.what c.args.p.now c.args.extra in
     subst (λ (bs : List Bound). Judges q x bs Obeys) (sym (c.nearest_follow.ensures.bound readings times.are_readings ∙ ap (listed_follow c.args.later) c.in-None.is)) (All-nil (ObeysNamed q x))

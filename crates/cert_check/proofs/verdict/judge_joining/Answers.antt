@@ -10,7 +10,7 @@ returns-in-Obeys-clause-verdict c = λ x readings times.
     let w = c.args.what in
     let e = c.args.extra in
     judges_on (widened w p e) x (follow_bounds p.follows readings 0 p.clocks) (flat_map message_bounds p.messages) c.judge_messages.result
-    (rw c.in-Obeys.is at (c.judge_follows.ensures.verdict w e x readings times)) (c.judge_messages.ensures.verdict x readings times)
+    (rw c.in-Obeys.is at (c.judge_follows.ensures.verdict x readings times)) (c.judge_messages.ensures.verdict x readings times)
 
 pub returns-in_default-clause-verdict : goal.returns-in_default-clause-verdict
 returns-in_default-clause-verdict c = λ x readings times.
@@ -18,4 +18,4 @@ returns-in_default-clause-verdict c = λ x readings times.
     let w = c.args.what in
     let e = c.args.extra in
     judges_first (widened w p e) x (follow_bounds p.follows readings 0 p.clocks) (flat_map message_bounds p.messages) c.judge_follows.result c.in_default.not-Obeys
-    (c.judge_follows.ensures.verdict w e x readings times)
+    (c.judge_follows.ensures.verdict x readings times)

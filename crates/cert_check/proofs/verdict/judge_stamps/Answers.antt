@@ -5,7 +5,7 @@ use Rattle.problem_model.specs.declared.items.Event.{Event}
 use Rattle.problem_model.specs.declared.items.Bound.TheVariants.{Late, Early}
 use Rattle.problem_model.specs.Nodes.{Reading}
 use Rattle.problem_model.specs.ShortList.{event_bounds}
-use Rattle.problem_model.proofs.Walking.{stamps_more, stamps_all, clock_there}
+use Rattle.problem_model.proofs.Walking.{stamps_more, stamps_all}
 use Rattle.cert_check.specs.Widened.{widened}
 use Rattle.cert_check.proofs.Loops.{on, out, done}
 use Rattle.cert_check.proofs.Widening.{formed}
