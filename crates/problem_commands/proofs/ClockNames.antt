@@ -7,7 +7,7 @@ use Rattle.problem_model.specs.Problem.{ProblemLists, IsProblem}
 use Rattle.cert_check.specs.declared.what.What.{What}
 use Rattle.cert_check.specs.declared.what.Clocks.TheVariants as clocks
 use Rattle.cert_check.specs.declared.what.Links.TheVariants as links
-use Rattle.cert_check.specs.declared.what.What.TheVariants.{Delays, Least, Stamps, Rates}
+use Rattle.cert_check.specs.declared.what.What.TheVariants.{Delays, Least, Stamps, Rates, Gaps}
 use Rattle.widen.specs.Named.{NamesWhat, what_words}
 use Rattle.widen.proofs.Naming.{clock_spelled}
 use Rattle.problem_commands.specs.WhatWords.{SaysNothing}
@@ -42,6 +42,7 @@ module _ (p : ProblemLists) (lawful : IsProblem p) where
   names_spelled (Stamps (clocks.One k)) named = (clock_spelled p lawful k named, tt)
   names_spelled (Rates clocks.All) named = tt
   names_spelled (Rates (clocks.One k)) named = (clock_spelled p lawful k named, tt)
+  names_spelled Gaps named = tt
 
   all_names : (kind : List ℕ) (names : List (List ℕ)) (what : What) → kind ∷ names ≡ what_words p what → AllByRecursion IsClockName (behind_kind (what_words p what)) → AllByRecursion IsClockName names
   unfolding behind_kind

@@ -1,11 +1,11 @@
 pub mod Printing
+pub mod ForProblem
 pub mod Reading
 pub mod Words
 pub mod Naming
 pub mod Obeying
-pub mod Solving
+pub mod EventNames
 pub mod Intervals
 pub mod Verifying
 pub mod ClockNames
 pub mod Widenings
-pub mod Blaming

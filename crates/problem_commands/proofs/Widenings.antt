@@ -42,13 +42,13 @@ use Rattle.problem_commands.specs.Refusal.{refused_answer}
 use Rattle.problem_commands.specs.Texts.{SpellsProblem, RefusesProblem}
 use Rattle.problem_commands.specs.Unread.{IsUnread, IsRefusedFor, IsLong, TellsUnread, unread_cert}
 use Rattle.problem_commands.specs.Verify.{NamesReason, NamesAnswer, TellsAnswer, no_line}
-use Rattle.problem_commands.specs.Widening.{SpellsWidening, RefusesWidening, IsTrueOf, IsLeastText, TellsLeast, TellsLeastNamed, WideningFound, WideningJudged}
+use Rattle.problem_commands.specs.Widening.{SpellsWidening, RefusesWidening, IsTrueOf, IsLeastText, TellsLeast, TellsLeastNamed, WideningJudged}
 use Rattle.problem_commands.specs.WhatWords.{SaysNothing}
 use Rattle.problem_commands.specs.declared.refusal.Refusal.{Refusal}
 use Rattle.problem_commands.specs.declared.status.Status.{Status}
 use Rattle.problem_commands.specs.declared.status.Status.TheVariants as statuses
 use Rattle.problem_commands.specs.declared.texts.Unread.{Unread}
-use Rattle.problem_commands.proofs.Printing.{at_status, only_goes, prints_as, unread_prints}
+use Rattle.problem_commands.proofs.Printing.{only_goes, prints_as, unread_prints}
 use Rattle.problem_commands.proofs.Reading.{IsWhole, spelled_in, unread_as, has_since, both_have}
 
 -- ---- what is found
@@ -65,20 +65,6 @@ module _ (p : ProblemLists) (ws : List (List ℕ)) (out out' : SinkTold) (result
 
   pub unknown_clock : SaysNothing p ws → Prints (IsOnlyText (codes "unknown clock\n") statuses.UnknownName) out out' result → Prints (TellsLeastNamed p ws) out out' result
   unknown_clock none prints = prints_as (IsOnlyText (codes "unknown clock\n") statuses.UnknownName) (TellsLeastNamed p ws) out out' result (λ status text only. inr (none, only)) prints
-
-module _ (problem : List ℕ) (ws : List (List ℕ)) (old new : FilesTold) (out out' : SinkTold) (result : Status) where
-  abbrev Goes : Status → List ℕ → Type 0
-  Goes = WideningFound problem ws old new
-
-  pub widen_stops : (u : Unread) → IsUnread RefusesProblem problem old new u → Prints (TellsUnread u (codes "problem") statuses.BadProblem) out out' result → Prints (WideningFound problem ws old new) out out' result
-  widen_stops u is prints = unread_prints Goes RefusesProblem problem old new (codes "problem") statuses.BadProblem (λ refusal has. (refusal, has, refl)) (λ missed. (missed, refl)) u out out' result is prints
-
-  named_goes : (p : ProblemLists) → HasBytes old.content problem (SpellsProblem p) → (status : Status) (text : List ℕ) → TellsLeastNamed p ws status text → WideningFound problem ws old new status text
-  named_goes p has status text (inl (what, says, tells)) = at_status Goes statuses.Done status text tells.0 (p, what, has, says, tells.1)
-  named_goes p has status text (inr (none, only)) = only_goes Goes (codes "unknown clock\n") statuses.UnknownName (p, has, none, refl) status text only
-
-  pub widened_found : (p : ProblemLists) → HasBytes old.content problem (SpellsProblem p) → Prints (TellsLeastNamed p ws) out out' result → Prints (WideningFound problem ws old new) out out' result
-  widened_found p has prints = prints_as (TellsLeastNamed p ws) Goes out out' result (named_goes p has) prints
 
 -- ---- the text of a widening in a file
 pub widening_in : (files : Content) (path text : List ℕ) (P : StatedWidening → List ℕ → Type 0) (Q : StatedWidening → Answer → Type 0) (r : Result Answer Unread) → IsWhole files path text

@@ -1,6 +1,6 @@
 -- What `ends` prints and answers.
 use Rattle.std.specs.Prelude.{◌≡◌, ◌⊎◌, ℕ, List, [], ◌∷◌, codes}
-use Rattle.ports.specs.Files.{FilesTold, HasBytes}
+use Rattle.ports.specs.Files.{FilesTold}
 use Rattle.line_format.specs.Words.{line_of}
 use Rattle.problem_model.specs.declared.items.Node.TheVariants as nodes
 use Rattle.problem_model.specs.Problem.{ProblemLists}
@@ -11,9 +11,9 @@ use Rattle.intervals.specs.Executions.{time_difference, AreEndsOf, IsOrderOf}
 use Rattle.queries.specs.Words.{end_word, order_word}
 use Rattle.queries.specs.Replies.{IsContradictionText}
 use Rattle.problem_commands.specs.Printing.{IsOnlyText}
-use Rattle.problem_commands.specs.Texts.{SpellsProblem, IsMissed, IsBadProblem}
+use Rattle.problem_commands.specs.ForProblem.{ForProblem}
 use Rattle.problem_commands.specs.declared.status.Status.{Status}
-use Rattle.problem_commands.specs.declared.status.Status.TheVariants.{Done, BadProblem, ReadFault, UnknownName}
+use Rattle.problem_commands.specs.declared.status.Status.TheVariants.{Done, UnknownName}
 
 -- ---- the text
 -- the line of an interval and an order
@@ -41,10 +41,4 @@ TellsNamed p first second status text = ((from : ℕ) × (to : ℕ) × HasEvent 
 
 -- what `ends` prints, with which status, and when
 abbrev pub IntervalAnswered : List ℕ → List ℕ → List ℕ → FilesTold → FilesTold → Status → List ℕ → Type 0
-IntervalAnswered problem first second old new Done text = (p : ProblemLists) × (from : ℕ) × (to : ℕ)
-    × HasBytes old.content problem (SpellsProblem p) × HasEvent p from first × HasEvent p to second × IsIntervalAndOrderText p from to text
-IntervalAnswered problem first second old new BadProblem text = IsBadProblem problem old.content text
-IntervalAnswered problem first second old new ReadFault text = IsMissed problem old new × (text ≡ codes "read fault\n")
-IntervalAnswered problem first second old new UnknownName text = (p : ProblemLists)
-    × HasBytes old.content problem (SpellsProblem p) × (IsUnknown p first ⊎ IsUnknown p second) × (text ≡ codes "unknown event\n")
-IntervalAnswered problem first second old new _ text = ⊥
+IntervalAnswered problem first second = ForProblem (λ p. TellsNamed p first second) problem

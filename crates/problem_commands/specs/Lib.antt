@@ -2,6 +2,7 @@ pub mod Codes
 pub mod Printing
 pub mod Refusal
 pub mod Texts
+pub mod ForProblem
 pub mod Unread
 pub mod Obey
 pub mod Solve

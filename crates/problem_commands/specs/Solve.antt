@@ -1,6 +1,6 @@
 -- What `solve` prints and answers.
-use Rattle.std.specs.Prelude.{◌≡◌, ◌⊎◌, ℕ, List, map, codes}
-use Rattle.ports.specs.Files.{FilesTold, HasBytes}
+use Rattle.std.specs.Prelude.{◌≡◌, ◌⊎◌, ℕ, List, map}
+use Rattle.ports.specs.Files.{FilesTold}
 use Rattle.problem_model.specs.Problem.{ProblemLists}
 use Rattle.problem_model.specs.Bounds.{Times}
 use Rattle.problem_model.specs.Nodes.{Reading, AreReadings, nodes_of}
@@ -8,9 +8,9 @@ use Rattle.problem_model.specs.Solutions.{IsEarliestExecution}
 use Rattle.cert.specs.declared.certificate.Cert.TheVariants.{Run}
 use Rattle.cert.specs.CertificateText.{certificate_text}
 use Rattle.queries.specs.Replies.{IsContradictionText}
-use Rattle.problem_commands.specs.Texts.{SpellsProblem, IsMissed, IsBadProblem}
+use Rattle.problem_commands.specs.ForProblem.{ForProblem}
 use Rattle.problem_commands.specs.declared.status.Status.{Status}
-use Rattle.problem_commands.specs.declared.status.Status.TheVariants.{Done, BadProblem, ReadFault}
+use Rattle.problem_commands.specs.declared.status.Status.TheVariants.{Done}
 
 -- the text is the certificate of the earliest execution
 abbrev pub IsEarliestText : ProblemLists → List ℕ → Type 0
@@ -27,7 +27,4 @@ TellsSolution p status text = (status ≡ Done) × IsSolutionText p text
 
 -- what `solve` prints, with which status, and when
 abbrev pub Solved : List ℕ → FilesTold → FilesTold → Status → List ℕ → Type 0
-Solved problem old new Done text = (p : ProblemLists) × HasBytes old.content problem (SpellsProblem p) × IsSolutionText p text
-Solved problem old new BadProblem text = IsBadProblem problem old.content text
-Solved problem old new ReadFault text = IsMissed problem old new × (text ≡ codes "read fault\n")
-Solved problem old new _ text = ⊥
+Solved = ForProblem TellsSolution

@@ -8,7 +8,7 @@ use Rattle.problem_commands.specs.declared.what_words.KindOfLinks.TheVariants.{D
 use Rattle.problem_commands.specs.declared.what_words.KindOfClocks.{KindOfClocks}
 use Rattle.problem_commands.specs.declared.what_words.KindOfClocks.TheVariants.{Stamps, Rates}
 use Rattle.problem_commands.specs.declared.what_words.WhatWords.{WhatWords}
-use Rattle.problem_commands.specs.declared.what_words.WhatWords.TheVariants.{Links, Clocks, Link, Clock}
+use Rattle.problem_commands.specs.declared.what_words.WhatWords.TheVariants.{Links, Clocks, Gaps, Link, Clock}
 
 -- the word of a kind
 abbrev pub links_kind : KindOfLinks → List ℕ
@@ -23,6 +23,7 @@ clocks_kind Rates = codes "rates"
 abbrev pub asked_words : WhatWords → List (List ℕ)
 asked_words (Links kind) = links_kind kind ∷ []
 asked_words (Clocks kind) = clocks_kind kind ∷ []
+asked_words Gaps = codes "gaps" ∷ []
 asked_words (Link kind from to) = links_kind kind ∷ from.now ∷ to.now ∷ []
 asked_words (Clock kind clock) = clocks_kind kind ∷ clock.now ∷ []
 

@@ -1,6 +1,6 @@
 -- What `widen` and `judge` print and answer.
 use Rattle.std.specs.Prelude.{◌≡◌, ◌⊎◌, ℕ, List, codes}
-use Rattle.ports.specs.Files.{FilesTold, HasBytes}
+use Rattle.ports.specs.Files.{FilesTold}
 use Rattle.line_format.specs.Format.{Answers}
 use Rattle.problem_model.specs.Problem.{ProblemLists}
 use Rattle.problem_model.specs.Nodes.{Reading, AreReadings}
@@ -18,7 +18,8 @@ use Rattle.widen.specs.ReadsWidening.{IsWideningTextOf}
 use Rattle.widen.specs.Found.{FindsWidening}
 use Rattle.problem_commands.specs.Printing.{IsOnlyText}
 use Rattle.problem_commands.specs.Refusal.{refused_answer, refused_text_line}
-use Rattle.problem_commands.specs.Texts.{SpellsProblem, IsMissed, IsBadProblem, BothHave, MissesOne}
+use Rattle.problem_commands.specs.Texts.{SpellsProblem, IsBadProblem, BothHave, MissesOne}
+use Rattle.problem_commands.specs.ForProblem.{ForProblem}
 use Rattle.problem_commands.specs.Verify.{no_line}
 use Rattle.problem_commands.specs.WhatWords.{SaysNothing}
 use Rattle.problem_commands.specs.declared.refusal.Refusal.{Refusal}
@@ -54,12 +55,7 @@ TellsLeastNamed p ws status text = ((what : What) × SaysWhat p ws what × Tells
 
 -- what `widen` prints, of what the words name, with which status, and when
 abbrev pub WideningFound : List ℕ → List (List ℕ) → FilesTold → FilesTold → Status → List ℕ → Type 0
-WideningFound problem ws old new Done text = (p : ProblemLists) × (what : What)
-    × HasBytes old.content problem (SpellsProblem p) × SaysWhat p ws what × IsLeastText p what text
-WideningFound problem ws old new BadProblem text = IsBadProblem problem old.content text
-WideningFound problem ws old new ReadFault text = IsMissed problem old new × (text ≡ codes "read fault\n")
-WideningFound problem ws old new UnknownName text = (p : ProblemLists) × HasBytes old.content problem (SpellsProblem p) × SaysNothing p ws × (text ≡ codes "unknown clock\n")
-WideningFound problem ws old new _ text = ⊥
+WideningFound problem ws = ForProblem (λ p. TellsLeastNamed p ws) problem
 
 -- ---- judge
 -- what `judge` prints of the widening and of what the text names, with which status, and when

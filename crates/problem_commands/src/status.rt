@@ -29,8 +29,8 @@ pub enum Status {
     ScriptLimit,
     /// The problem has no event, or no clock, of a name in the words.
     UnknownName,
-    /// The packets of a script are not merged: a line is refused, or they are too many, or no execution exists, or their link
-    /// types differ, or a time is too late.
+    /// The packets of a script are not merged: a line is refused, or they are too many, or no execution exists, or
+    /// their link types differ, or a time is too late.
     NoMerge,
 }
 

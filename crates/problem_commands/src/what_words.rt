@@ -35,6 +35,8 @@ pub enum WhatWords<'a> {
     Links(KindOfLinks),
     /// Those of all clocks.
     Clocks(KindOfClocks),
+    /// `gaps`: those between clocks that follow each other.
+    Gaps,
     /// Those of the messages from an event of a clock to one of another.
     Link {
         kind: KindOfLinks,
@@ -101,6 +103,7 @@ fn named_of(words: &WhatWords) -> Option<NamedWhat>
     match words {
         WhatWords::Links(kind) => Some(of_links(*kind, NamedLinks::All)),
         WhatWords::Clocks(kind) => Some(of_clocks(*kind, NamedClocks::All)),
+        WhatWords::Gaps => Some(NamedWhat::Gaps),
         WhatWords::Link { kind, from, to } => of_link(*kind, from, to),
         WhatWords::Clock { kind, clock } => of_clock(*kind, clock),
     }

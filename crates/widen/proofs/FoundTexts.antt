@@ -103,7 +103,8 @@ links_kind_short kind (inr is) = rw is (omega arith)
 stated_short : (ws : List (List ℕ)) → AreStated ws → sized ws ≤ 73
 stated_short [] stated = omega arith
 stated_short (kind ∷ []) (inl k) = let short = clocks_kind_short kind k in omega (arith, short)
-stated_short (kind ∷ []) (inr k) = let short : length kind ≤ 5 = rw k (omega arith) in omega (arith, short)
+stated_short (kind ∷ []) (inr (inl k)) = let short : length kind ≤ 5 = rw k (omega arith) in omega (arith, short)
+stated_short (kind ∷ []) (inr (inr k)) = let short : length kind ≤ 4 = rw k (omega arith) in omega (arith, short)
 stated_short (kind ∷ clock ∷ []) stated =
     let short = clocks_kind_short kind stated.0 in
     let name = stated.1.short in

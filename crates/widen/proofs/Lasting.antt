@@ -4,10 +4,9 @@ use Rattle.std.specs.Prelude.{ℤ, pos, ◌<ℤ◌, All, unsigned_abs}
 use Rattle.std.proofs.lemmas.List.{length-map}
 use Rattle.std.proofs.lemmas.List.Elements.{All-nil, All-cons, All-head, All-tail, All-map, All-weaker}
 use Rattle.problem_model.specs.declared.items.Bound.{Bound}
-use Rattle.problem_model.specs.declared.items.Event.{Event}
 use Rattle.problem_model.specs.declared.items.Node.{Node}
 use Rattle.problem_model.specs.Problem.{ProblemLists, IsProblem}
-use Rattle.problem_model.specs.Bounds.{Constraint, Declares}
+use Rattle.problem_model.specs.Bounds.{Declares}
 use Rattle.problem_model.specs.Nodes.{Reading, AreReadings}
 use Rattle.problem.proofs.ListedNodes.{few_nodes}
 use Rattle.problem_model.specs.Numbers.{IsUpTo}
@@ -20,7 +19,7 @@ use Rattle.cert_check.specs.declared.what.What.{What}
 use Rattle.cert_check.specs.Widened.{widened}
 use Rattle.cert_check.proofs.Comparing.{declared_back, ends_same}
 use Rattle.attain.specs.Tight.{IsUnder}
-use Rattle.widen.specs.Weighed.{IsNameOf, IsWeighed, unweighed, weighed_arcs, step_of}
+use Rattle.widen.specs.Weighed.{IsNameOf, IsWeighed, unweighed, weighed_arcs, step_of, arc_of}
 use Rattle.widen.specs.Found.{IsCycleAt, IsCycleFor}
 use Rattle.widen.proofs.Summing.{up_from}
 use Rattle.widen.proofs.Weighing.{abs_under, name_same, head_same, tail_same}
@@ -52,6 +51,18 @@ steps_weighed : (arcs : List Arc) → weighed_bounds (map step_of arcs) ≡ weig
 steps_weighed [] = refl
 steps_weighed (a ∷ arcs) = ap (λ (rest : List WeighedBound). (a.name, a.weight) ∷ rest) (steps_weighed arcs)
 
+steps_as_arcs : (steps : List Step) → weighed_arcs (map arc_of steps) ≡ weighed_bounds steps
+steps_as_arcs [] = refl
+steps_as_arcs (s ∷ steps) = ap (λ (rest : List WeighedBound). (s.bound, s.weight) ∷ rest) (steps_as_arcs steps)
+
+-- the arcs of its steps are the contradiction that a cycle is
+pub cycle_as_arcs : (what : What) (p : ProblemLists) (e : ℕ) (cycle : List Step) → IsCycleAt what p e cycle → IsCycleFor what p e (map arc_of cycle)
+cycle_as_arcs what p e cycle found = record {
+  contradiction = subst (IsContradictionOf (widened what p e)) (sym (steps_as_arcs cycle)) found.contradiction;
+  short = λ readings are. (let short = found.short readings are in omega (arith, short, length-map cycle arc_of));
+  small = All-map (λ (a : Arc). IsUnder 93 a.weight) arc_of cycle found.small;
+}
+
 pub same_long : (arcs others : List Arc) → map unweighed others ≡ map unweighed arcs → length others ≡ length arcs
 same_long arcs others same = sym (length-map others unweighed) ∙ ap length same ∙ length-map arcs unweighed
 
@@ -72,12 +83,12 @@ module _ (what : What) (p : ProblemLists) (e : ℕ) (arcs : List Arc) (lawful : 
     small = All-map (λ (s : Step). IsUnder 93 s.weight) step_of arcs found.small;
   })
 
-  -- with the weights that it has where the problem is widened by so much
-  pub later_cycle : (last : ℕ) (others : List Arc) → map unweighed others ≡ map unweighed arcs → All (IsWeighed (widened what p last)) others → All (λ a. unsigned_abs a.weight < 2 ^ 93) others
-      → weight_of (weighed_arcs others) <ℤ pos 0 → IsCycleFor what p last others
-  later_cycle last others same weighed small negative = record {
+  -- with the weights that it has where the problem is widened by so much, maybe in another way
+  pub later_cycle : (other : What) (last : ℕ) (others : List Arc) → map unweighed others ≡ map unweighed arcs → All (IsWeighed (widened other p last)) others → All (λ a. unsigned_abs a.weight < 2 ^ 93) others
+      → weight_of (weighed_arcs others) <ℤ pos 0 → IsCycleFor other p last others
+  later_cycle other last others same weighed small negative = record {
     contradiction = record {
-      closed = (found.contradiction.closed.0, leads_on (widened what p e) (widened what p last) refl arcs others found.contradiction.closed.0 found.contradiction.closed.0 same weighed found.contradiction.closed.1);
+      closed = (found.contradiction.closed.0, leads_on (widened what p e) (widened other p last) refl arcs others found.contradiction.closed.0 found.contradiction.closed.0 same weighed found.contradiction.closed.1);
       negative = negative;
     };
     short = λ readings are. (let short = found.short readings are in omega (arith, short, same_long arcs others same));

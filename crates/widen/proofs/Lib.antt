@@ -15,5 +15,10 @@ pub mod FoundTexts
 pub mod Summing
 pub mod Concluding
 pub mod Lasting
+pub mod Sharing
 pub mod Ground
+pub mod OneBlame
+pub mod ClockPairs
+pub mod LinkLists
+pub mod Blaming
 mod Worked

@@ -6,7 +6,7 @@ use Rattle.cert_check.specs.declared.what.What.{What}
 use Rattle.cert_check.specs.declared.what.What.TheVariants as whats
 use Rattle.widen.specs.declared.named.NamedLinks.TheVariants as named_links
 use Rattle.widen.specs.declared.named.NamedWhat.{NamedWhat}
-use Rattle.widen.specs.declared.named.NamedWhat.TheVariants.{Delays, Least, Stamps, Rates}
+use Rattle.widen.specs.declared.named.NamedWhat.TheVariants.{Delays, Least, Stamps, Rates, Gaps}
 use Rattle.widen.specs.Named.{what_words, stated_words, SaysWhat, StatesWhat}
 use Rattle.widen.specs.NamedWords.{named_words, stated_named}
 use Rattle.widen.proofs.Naming.{IsOther, some_words, stated_cases}
@@ -19,6 +19,7 @@ some_named (Delays v) is = cc
 some_named (Least v) is = cc
 some_named (Stamps v) is = cc
 some_named (Rates v) is = cc
+some_named Gaps is = cc
 
 module _ (p : ProblemLists) where
   named_cases : (n : NamedWhat) → ((named_words n ≡ codes "delays" ∷ []) × (stated_named n ≡ [])) ⊎ ((stated_named n ≡ named_words n) × IsOther p (named_words n))
@@ -28,6 +29,7 @@ module _ (p : ProblemLists) where
   named_cases (Least v) = inr (refl, (λ is. let h = ap (byte_of 0) is in omega (arith, h)))
   named_cases (Stamps v) = inr (refl, (λ is. let h = ap (byte_of 0) is in omega (arith, h)))
   named_cases (Rates v) = inr (refl, (λ is. let h = ap (byte_of 0) is in omega (arith, h)))
+  named_cases Gaps = inr (refl, (λ is. let h = ap (byte_of 0) is in omega (arith, h)))
 
   words_on : (n : NamedWhat) (what : What) → named_words n ≡ what_words p what → stated_named n ≡ stated_words p what
   words_on n what is = elim (named_cases n) [

@@ -21,7 +21,7 @@ use Rattle.cert_check.specs.declared.what.Clocks.TheVariants as clocks
 use Rattle.cert_check.specs.declared.what.Links.{Links}
 use Rattle.cert_check.specs.declared.what.Links.TheVariants as links
 use Rattle.cert_check.specs.declared.what.What.{What}
-use Rattle.cert_check.specs.declared.what.What.TheVariants.{Delays, Least, Stamps, Rates}
+use Rattle.cert_check.specs.declared.what.What.TheVariants.{Delays, Least, Stamps, Rates, Gaps}
 use Rattle.widen.specs.Named.{NamesClocks, NamesLinks, NamesWhat, clocks_words, links_words, what_words, stated_words, SaysWhat, StatesWhat, IsKindOfClocks, IsKindOfLinks, AreStated}
 
 -- ---- the name of a clock, and its place
@@ -85,6 +85,7 @@ module _ (p : ProblemLists) where
   some_words (Least v) is = cc
   some_words (Stamps v) is = cc
   some_words (Rates v) is = cc
+  some_words Gaps is = cc
 
   abbrev pub IsOther : List (List ℕ) → Type 0
   IsOther ws = ws ≡ codes "delays" ∷ [] → ⊥
@@ -96,6 +97,7 @@ module _ (p : ProblemLists) where
   stated_cases (Least v) = inr (refl, (λ is. let h = ap (byte_of 0) is in omega (arith, h)))
   stated_cases (Stamps v) = inr (refl, (λ is. let h = ap (byte_of 0) is in omega (arith, h)))
   stated_cases (Rates v) = inr (refl, (λ is. let h = ap (byte_of 0) is in omega (arith, h)))
+  stated_cases Gaps = inr (refl, (λ is. let h = ap (byte_of 0) is in omega (arith, h)))
 
 module _ (p : ProblemLists) (lawful : IsProblem p) where
   place_one : (j k : ℕ) → j < length p.clocks → k < length p.clocks → name_at (listing_of p).clock_names j ≡ name_at (listing_of p).clock_names k → j ≡ k
@@ -122,6 +124,7 @@ module _ (p : ProblemLists) (lawful : IsProblem p) where
   words_one (Least v) (Least w) x y is = ap Least (links_one v w x y (ap behind_kind is))
   words_one (Stamps v) (Stamps w) x y is = ap Stamps (clocks_one v w x y (ap behind_kind is))
   words_one (Rates v) (Rates w) x y is = ap Rates (clocks_one v w x y (ap behind_kind is))
+  words_one Gaps Gaps x y is = refl
   words_one (Delays v) (Least w) x y is = absurd (let h = ap (byte_of 0) is in omega (arith, h))
   words_one (Delays v) (Stamps w) x y is = absurd (let h = ap (byte_of 0) is in omega (arith, h))
   words_one (Delays v) (Rates w) x y is = absurd (let h = ap (byte_of 0) is in omega (arith, h))
@@ -134,6 +137,14 @@ module _ (p : ProblemLists) (lawful : IsProblem p) where
   words_one (Rates v) (Delays w) x y is = absurd (let h = ap (byte_of 0) is in omega (arith, h))
   words_one (Rates v) (Least w) x y is = absurd (let h = ap (byte_of 0) is in omega (arith, h))
   words_one (Rates v) (Stamps w) x y is = absurd (let h = ap (byte_of 0) is in omega (arith, h))
+  words_one (Delays v) Gaps x y is = absurd (let h = ap (byte_of 0) is in omega (arith, h))
+  words_one (Least v) Gaps x y is = absurd (let h = ap (byte_of 0) is in omega (arith, h))
+  words_one (Stamps v) Gaps x y is = absurd (let h = ap (byte_of 0) is in omega (arith, h))
+  words_one (Rates v) Gaps x y is = absurd (let h = ap (byte_of 0) is in omega (arith, h))
+  words_one Gaps (Delays w) x y is = absurd (let h = ap (byte_of 0) is in omega (arith, h))
+  words_one Gaps (Least w) x y is = absurd (let h = ap (byte_of 0) is in omega (arith, h))
+  words_one Gaps (Stamps w) x y is = absurd (let h = ap (byte_of 0) is in omega (arith, h))
+  words_one Gaps (Rates w) x y is = absurd (let h = ap (byte_of 0) is in omega (arith, h))
 
   pub what_one : (a b : What) (ws : List (List ℕ)) → StatesWhat p ws a → StatesWhat p ws b → a ≡ b
   what_one a b ws x y = elim (stated_cases p a) [
@@ -159,12 +170,13 @@ module _ (p : ProblemLists) (lawful : IsProblem p) where
   pub what_spelled : (a : What) → NamesWhat p a → AreStated (stated_words p a)
   what_spelled (Delays links.All) named = tt
   what_spelled (Delays (links.Between f t)) named = (inl refl, clock_spelled f named.0, clock_spelled t named.1)
-  what_spelled (Least links.All) named = inr refl
+  what_spelled (Least links.All) named = inr (inl refl)
   what_spelled (Least (links.Between f t)) named = (inr refl, clock_spelled f named.0, clock_spelled t named.1)
   what_spelled (Stamps clocks.All) named = inl (inl refl)
   what_spelled (Stamps (clocks.One k)) named = (inl refl, clock_spelled k named)
   what_spelled (Rates clocks.All) named = inl (inr refl)
   what_spelled (Rates (clocks.One k)) named = (inr refl, clock_spelled k named)
+  what_spelled Gaps named = inr (inr refl)
 
 -- ---- they lack spaces and line feeds
 abbrev IsBlank : ℕ → Type 0
@@ -180,6 +192,10 @@ least_kind_lacks : (d : ℕ) (kind : List ℕ) → IsBlank d → kind ≡ codes 
 least_kind_lacks d kind (inl is) k = rw (is, k) (lacks_test 10 (codes "least") refl)
 least_kind_lacks d kind (inr is) k = rw (is, k) (lacks_test 32 (codes "least") refl)
 
+gaps_kind_lacks : (d : ℕ) (kind : List ℕ) → IsBlank d → kind ≡ codes "gaps" → Lacks d kind
+gaps_kind_lacks d kind (inl is) k = rw (is, k) (lacks_test 10 (codes "gaps") refl)
+gaps_kind_lacks d kind (inr is) k = rw (is, k) (lacks_test 32 (codes "gaps") refl)
+
 links_kind_lacks : (d : ℕ) (kind : List ℕ) → IsBlank d → IsKindOfLinks kind → Lacks d kind
 links_kind_lacks d kind (inl is) (inl k) = rw (is, k) (lacks_test 10 (codes "delays") refl)
 links_kind_lacks d kind (inr is) (inl k) = rw (is, k) (lacks_test 32 (codes "delays") refl)
@@ -192,7 +208,8 @@ name_lacks d name (inr is) spelled = clock_name_lacks d name (omega (arith, is))
 pub stated_lacks : (d : ℕ) (ws : List (List ℕ)) → IsBlank d → AreStated ws → AllLack d ws
 stated_lacks d [] blank stated = tt
 stated_lacks d (kind ∷ []) blank (inl k) = (clocks_kind_lacks d kind blank k, tt)
-stated_lacks d (kind ∷ []) blank (inr k) = (least_kind_lacks d kind blank k, tt)
+stated_lacks d (kind ∷ []) blank (inr (inl k)) = (least_kind_lacks d kind blank k, tt)
+stated_lacks d (kind ∷ []) blank (inr (inr k)) = (gaps_kind_lacks d kind blank k, tt)
 stated_lacks d (kind ∷ clock ∷ []) blank stated = (clocks_kind_lacks d kind blank stated.0, (name_lacks d clock blank stated.1, tt))
 stated_lacks d (kind ∷ from ∷ to ∷ []) blank stated = (links_kind_lacks d kind blank stated.0, (name_lacks d from blank stated.1, (name_lacks d to blank stated.2, tt)))
 stated_lacks d (kind ∷ from ∷ to ∷ other ∷ more) blank stated = absurd stated

@@ -7,7 +7,7 @@ use Rattle.problem_model.specs.Nodes.{Reading, nodes_of}
 use Rattle.cert.specs.declared.chain.Step.{Step}
 use Rattle.cert_check.specs.declared.what.Links.TheVariants as links
 use Rattle.cert_check.specs.declared.what.Clocks.TheVariants as clocks
-use Rattle.cert_check.specs.declared.what.What.TheVariants.{Delays, Stamps}
+use Rattle.cert_check.specs.declared.what.What.TheVariants.{Delays, Stamps, Gaps}
 use Rattle.cert_check.specs.Widened.{widened}
 use Rattle.widen.specs.declared.widening.Widening.TheVariants.{Least, Never}
 use Rattle.widen.specs.WideningText.{widening_text}
@@ -31,6 +31,21 @@ worked-widened = refl
 
 worked-none : widened (Delays links.All) (contradicting None) 3 ≡ contradicting None
 worked-none = refl
+
+-- two clocks that follow each other: the gap is less, and not below 0
+abbrev followed : ℕ → ProblemLists
+followed gap = record {
+  clocks = clock_of_zeros (codes "a") ∷ clock_of_zeros (codes "b") ∷ [];
+  follows = record { earlier = 0; later = 1; gap = gap } ∷ [];
+  events = record { name = codes "a#1"; clock = 0; stamp = 0 } ∷ record { name = codes "b#1"; clock = 1; stamp = 0 } ∷ [];
+  messages = record { send = 1; receive = 0; least = 1; most = None } ∷ [];
+}
+
+worked-gap : widened Gaps (followed 10) 7 ≡ followed 3
+worked-gap = refl
+
+worked-no-gap : widened Gaps (followed 10) 12 ≡ followed 0
+worked-no-gap = refl
 
 abbrev readings : List Reading
 readings = (0, 100) ∷ (0, 195) ∷ (1, 250) ∷ (1, 300) ∷ []

@@ -9,4 +9,5 @@ pub mod ReadsLines
 pub mod JudgedText
 pub mod Weighed
 pub mod Found
+pub mod Blame
 pub mod Search

@@ -8,7 +8,7 @@ use Rattle.cert_check.specs.declared.what.Clocks.TheVariants as clocks
 use Rattle.cert_check.specs.declared.what.Links.{Links}
 use Rattle.cert_check.specs.declared.what.Links.TheVariants as links
 use Rattle.cert_check.specs.declared.what.What.{What}
-use Rattle.cert_check.specs.declared.what.What.TheVariants.{Delays, Least, Stamps, Rates}
+use Rattle.cert_check.specs.declared.what.What.TheVariants.{Delays, Least, Stamps, Rates, Gaps}
 
 -- ---- clocks of the problem
 -- the clocks that are meant are clocks of the problem
@@ -25,6 +25,7 @@ NamesWhat p (Delays which) = NamesLinks p which
 NamesWhat p (Least which) = NamesLinks p which
 NamesWhat p (Stamps which) = NamesClocks p which
 NamesWhat p (Rates which) = NamesClocks p which
+NamesWhat p Gaps = ⊤
 
 -- ---- words
 -- the names of the clocks that are meant, where those of one clock or of one link are
@@ -42,6 +43,7 @@ what_words p (Delays which) = codes "delays" ∷ links_words p which
 what_words p (Least which) = codes "least" ∷ links_words p which
 what_words p (Stamps which) = codes "stamps" ∷ clocks_words p which
 what_words p (Rates which) = codes "rates" ∷ clocks_words p which
+what_words p Gaps = codes "gaps" ∷ []
 
 -- the words name this, which is of the problem
 abbrev pub SaysWhat : ProblemLists → List (List ℕ) → What → Type 0
@@ -55,6 +57,7 @@ stated_words p (Delays (links.Between from to)) = what_words p (Delays (links.Be
 stated_words p (Least which) = what_words p (Least which)
 stated_words p (Stamps which) = what_words p (Stamps which)
 stated_words p (Rates which) = what_words p (Rates which)
+stated_words p Gaps = what_words p Gaps
 
 -- the words on the line name this, which is of the problem
 abbrev pub StatesWhat : ProblemLists → List (List ℕ) → What → Type 0
@@ -70,7 +73,7 @@ IsKindOfLinks kind = (kind ≡ codes "delays") ⊎ (kind ≡ codes "least")
 -- the words are a kind, of all, with a name, or with two, each spelled as a clock's; or none
 abbrev pub AreStated : List (List ℕ) → Type 0
 AreStated [] = Unit {0}
-AreStated (kind ∷ []) = IsKindOfClocks kind ⊎ (kind ≡ codes "least")
+AreStated (kind ∷ []) = IsKindOfClocks kind ⊎ (kind ≡ codes "least") ⊎ (kind ≡ codes "gaps")
 AreStated (kind ∷ clock ∷ []) = IsKindOfClocks kind × IsClockName clock
 AreStated (kind ∷ from ∷ to ∷ []) = IsKindOfLinks kind × IsClockName from × IsClockName to
 AreStated (kind ∷ from ∷ to ∷ other ∷ more) = ⊥

@@ -5,7 +5,7 @@ use Rattle.widen.specs.declared.named.NamedClocks.TheVariants as clocks
 use Rattle.widen.specs.declared.named.NamedLinks.{NamedLinks}
 use Rattle.widen.specs.declared.named.NamedLinks.TheVariants as links
 use Rattle.widen.specs.declared.named.NamedWhat.{NamedWhat}
-use Rattle.widen.specs.declared.named.NamedWhat.TheVariants.{Delays, Least, Stamps, Rates}
+use Rattle.widen.specs.declared.named.NamedWhat.TheVariants.{Delays, Least, Stamps, Rates, Gaps}
 
 -- the names
 abbrev pub clock_names : NamedClocks → List (List ℕ)
@@ -22,6 +22,7 @@ named_words (Delays which) = codes "delays" ∷ link_names which
 named_words (Least which) = codes "least" ∷ link_names which
 named_words (Stamps which) = codes "stamps" ∷ clock_names which
 named_words (Rates which) = codes "rates" ∷ clock_names which
+named_words Gaps = codes "gaps" ∷ []
 
 -- the same on the line of a widening
 abbrev pub stated_named : NamedWhat → List (List ℕ)
@@ -30,3 +31,4 @@ stated_named (Delays (links.Between from to)) = named_words (Delays (links.Betwe
 stated_named (Least which) = named_words (Least which)
 stated_named (Stamps which) = named_words (Stamps which)
 stated_named (Rates which) = named_words (Rates which)
+stated_named Gaps = named_words Gaps

@@ -26,3 +26,7 @@ weighed_arcs arcs = map (λ (a : Arc). (a.name, a.weight)) arcs
 -- the name and the weight of an arc, as a step
 abbrev pub step_of : Arc → Step
 step_of a = record { bound = a.name; weight = a.weight }
+
+-- a step as an arc, whose ends are left open
+abbrev pub arc_of : Step → Arc
+arc_of s = record { from = 0; to = 0; weight = s.weight; name = s.bound }

@@ -40,8 +40,8 @@ fn execution_of(alloc: Global, e: &Earliest, nodes: u32) -> Result<Execution, Al
     Ok(execution)
 }
 
-// A contradiction, with the weights that it has where the problem is widened as far as it is seen to last.
-fn last_cycle(
+/// A contradiction, with the weights that it has where the problem is widened as far as it is seen to last.
+pub fn last_cycle(
     alloc: Global,
     p: &Problem,
     what: What,

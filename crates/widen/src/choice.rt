@@ -4,8 +4,8 @@ ghost use Rattle.std.specs.Prelude.{◌≤◌, ◌<◌};
 // By how much more it is farther each time, while no execution is known.
 const FACTOR: u64 = 16;
 
-/// Tries something above the low end, and the low end, by turns: what lies above looks for an execution in strides that
-/// grow, or halves what is left, and the low end is the answer where the contradiction below it was the last one.
+/// Tries the low end, and something above it, by turns: the low end is the answer where the contradiction below it was the
+/// last one, and what lies above looks for an execution in strides that grow, or halves what is left.
 #[derive(Drop)]
 pub struct Choice {
     above: bool,
@@ -15,7 +15,7 @@ pub struct Choice {
 impl Choice {
     pub fn new() -> Choice {
         Choice {
-            above: true,
+            above: false,
             stride: 1,
         }
     }

@@ -3,7 +3,6 @@ ghost use Rattle.std.specs.Prelude.{◌≡◌, ◌≤◌, ◌<◌, ◌^◌, leng
 ghost use Rattle.problem_model.specs.Numbers.{IsUpTo};
 ghost use Rattle.problem_model.specs.Solutions.{weight_of};
 ghost use Rattle.problem_model.specs.Limits.{most_nodes, path_bits};
-ghost use Rattle.widen.specs.Least.{most_extra};
 ghost use Rattle.widen.specs.Weighed.{IsNameOf, step_of, weighed_arcs};
 
 use crate::known::nano;
@@ -63,8 +62,8 @@ fn times_below(lacks: u128, each: u128, limit: u64) -> u64
     }
 }
 
-// How far the contradiction lasts, by what its sum grows by at once; no farther where it is none there any more. Where bounds
-// come to their limits on the way it grows by less, and lasts longer.
+// How far the contradiction lasts, by what its sum grows by at once; no farther where it is none there any more. Where
+// bounds come to their limits on the way it grows by less, and lasts longer.
 fn farther(p: &Problem, what: What, arcs: &[Arc], extra: u64) -> u64
     requires extra { extra < 2 ^ 62 }
     requires few { length arcs.now ≤ most_nodes }

@@ -1,17 +1,19 @@
 // The least widening of a problem, found.
-ghost use Rattle.std.specs.Prelude.{◌<◌, IfOk};
+ghost use Rattle.std.specs.Prelude.{◌<◌, ◌≤◌, All, IfOk, OnOk};
 ghost use Rattle.solver.specs.Current.{IsCurrent};
 ghost use Rattle.problem_graph.specs.HeldBounds.{HoldsShortList};
 ghost use Rattle.problem_solver.specs.Order.{AreAllArcs};
 ghost use Rattle.widen.specs.Found.{FindsWidening};
-ghost use Rattle.widen.specs.Search.{IsKnown};
+ghost use Rattle.widen.specs.Search.{IsKnown, IsCycleOf};
 ghost use Rattle.widen.specs.Widening.{IsWideningOf, ShowsWidening};
 
 use crate::attempt::{Ordered, try_nothing, try_widening};
 use crate::choice::Choice;
 use crate::known::{Known, concluded, narrow, nothing_known};
+use crate::shared_cycles::narrow_by;
 use crate::widening::Widening;
 use atto::Steps;
+use cert::Chain;
 use cert_check::What;
 use problem::Problem;
 use problem_solver::solve;
@@ -45,29 +47,24 @@ fn first_known(alloc: Global, p: &Problem, what: What, s: &Solver) -> Result<Kno
     Ok(known)
 }
 
-/// The least widening of a problem, or that there is none, and in how many rounds it was found: for so many widenings, 0 the first
-/// of them, the graph of the problem was solved.
-#[derive(Drop)]
-pub struct Found {
-    pub widening: Widening,
-    pub rounds: u64,
-}
-
-/// What `widening_in_rounds` finds, by what the solver of the problem holds: the search between what does not heal and what
-/// does.
-pub fn search<L: Ledger>(
+// Tries widenings until nothing is left between both ends, and says in how many rounds, with that of `first_known`.
+fn close<L: Ledger>(
     alloc: Global,
     p: &Problem,
     what: What,
     s: &Solver,
+    known: &mut Known,
     steps: &mut Steps<L>,
-) -> Result<Found, AllocError>
-    requires current { IsCurrent s.now }
+) -> Result<u64, AllocError>
     requires graph { HoldsShortList p.now s.now.graph }
-    ensures finds { IfOk result (λ found. FindsWidening what p.now found.widening) }
-    ensures some { IfOk result (λ found. 0 < found.rounds) }
+    requires known { IsKnown what p.now known.old }
+    ensures known { OnOk result (IsKnown what p.now known.new) }
+    ensures closed { OnOk result (known.new.high ≤ known.new.low) }
+    ensures some { IfOk result (λ rounds. 0 < rounds) }
 {
-    let mut known = first_known(alloc, p, what, s)?;
+    if known.high <= known.low {
+        return Ok(1);
+    }
     let g = s.graph();
     let order = all_arcs(alloc, g)?;
     let from = Ordered {
@@ -79,9 +76,39 @@ pub fn search<L: Ledger>(
     'widenings: while known.low < known.high {
         let extra = choice.next(known.low, known.high, known.run.is_some());
         let tried = try_widening(alloc, p, what, &from, extra, steps)?;
-        narrow(&mut known, extra, tried);
+        narrow(known, extra, tried);
         rounds += 1;
     }
+    Ok(rounds)
+}
+
+/// The least widening of a problem, or that there is none, and in how many rounds it was found: for so many widenings,
+/// 0 the first of them, the graph of the problem was solved.
+#[derive(Drop)]
+pub struct Found {
+    pub widening: Widening,
+    pub rounds: u64,
+}
+
+/// What `widening_in_rounds` finds, by what the solver of the problem holds and by contradictions that other searches found:
+/// the search between what does not heal and what does.
+pub fn search<L: Ledger>(
+    alloc: Global,
+    p: &Problem,
+    what: What,
+    s: &Solver,
+    cycles: &[Chain],
+    steps: &mut Steps<L>,
+) -> Result<Found, AllocError>
+    requires current { IsCurrent s.now }
+    requires graph { HoldsShortList p.now s.now.graph }
+    requires cycles { All (IsCycleOf p.now) cycles.now }
+    ensures finds { IfOk result (λ found. FindsWidening what p.now found.widening) }
+    ensures some { IfOk result (λ found. 0 < found.rounds) }
+{
+    let mut known = first_known(alloc, p, what, s)?;
+    narrow_by(alloc, p, what, cycles, &mut known)?;
+    let rounds = close(alloc, p, what, s, &mut known, steps)?;
     Ok(Found {
         widening: concluded(known),
         rounds,
@@ -101,15 +128,15 @@ pub fn widening_in_rounds<L: Ledger>(
     ensures some { IfOk result (λ found. 0 < found.rounds) }
 {
     let s = solve(alloc, p, 0, steps)?;
-    let found = search(alloc, p, what, &s, steps)?;
+    let found = search(alloc, p, what, &s, &[], steps)?;
     Ok(found)
 }
 
-/// By how much what is named must be widened at least, in ns or for rates in parts per billion, so that an execution exists,
-/// with what shows it from both sides: the earliest execution of the problem that is widened by so much and, where that is
-/// above 0, a contradiction of the one that is widened by 1 less, with the weights that its bounds have there. `Never` comes
-/// exactly where no number below 2^62 will do, with a contradiction of the problem that is widened by 2^62 - 1. It answers an
-/// error only where memory runs out. No number of steps is promised.
+/// By how much what is named must be widened at least, in ns or for rates in parts per billion, so that an execution
+/// exists, with what shows it from both sides: the earliest execution of the problem that is widened by so much and,
+/// where that is above 0, a contradiction of the one that is widened by 1 less, with the weights that its bounds have
+/// there. `Never` comes exactly where no number below 2^62 will do, with a contradiction of the problem that is widened
+/// by 2^62 - 1. It answers an error only where memory runs out. No number of steps is promised.
 pub fn least_widening<L: Ledger>(
     alloc: Global,
     p: &Problem,

@@ -23,8 +23,10 @@ ghost use Rattle.widen.specs.WideningFormat.{WideningSaid, said, widening_format
 ghost use Rattle.widen.specs.ReadsWidening.{IsWideningTextOf, ReadsWideningOver};
 ghost use Rattle.widen.specs.JudgedText.{JudgesText};
 ghost use Rattle.widen.specs.Found.{FindsWidening};
+ghost use Rattle.widen.specs.Blame.{IsBlameText};
 
-/// A law, which does nothing when it runs. What is an execution of a problem that is widened is one where it is widened by more. So a widening that shows what it should is the least one, or there is none; a problem has one least
+/// A law, which does nothing when it runs. What is an execution of a problem that is widened is one where it is widened
+/// by more. So a widening that shows what it should is the least one, or there is none; a problem has one least
 /// widening or none, and not both. A widening has one answer.
 pub fn least()
     ensures rises { (what : What) (p : ProblemLists) (e f : ℕ) (x : Times) → e ≤ f → IsExecution (widened what p e) x → IsExecution (widened what p f) x }
@@ -45,8 +47,9 @@ pub fn widening_answers_are_one()
         → IsWideningTextOf p readings s.what s.widening text → ReadsWideningOver p readings text result → (result ≡ Ok s) ⊎ (result ≡ Err errors.Memory) }
 {}
 
-/// A law, which does nothing when it runs: what `least_widening` finds is the least widening, or there is none. Its text is not
-/// too long and its numbers are in range, and what reading and judging it answers is yes, or that memory ran out.
+/// A law, which does nothing when it runs: what `least_widening` finds is the least widening, or there is none. Its
+/// text is not too long and its numbers are in range, and what reading and judging it answers is yes, or that memory
+/// ran out.
 pub fn found_widenings()
     ensures least { (what : What) (p : ProblemLists) (extra : ℕ) (execution : List ℤ) (cycle : Option (List Step)) → FindsWidening what p (Least extra execution cycle) → IsLeastWidening what p extra }
     ensures never { (what : What) (p : ProblemLists) (cycle : List Step) → FindsWidening what p (Never cycle) → HasNoWidening what p }
@@ -54,4 +57,9 @@ pub fn found_widenings()
         → IsWideningTextOf p readings what w (widening_text p (nodes_of p readings) what w) }
     ensures accepted { (what : What) (p : ProblemLists) (readings : List Reading) (w : Widening) (result : Result judged.Answer CertError) → IsProblem p → AreReadings p readings → NamesWhat p what → FindsWidening what p w
         → JudgesText p (widening_text p (nodes_of p readings) what w) result → (result ≡ Ok answers.Yes) ⊎ (result ≡ Err errors.Memory) }
+{}
+
+/// A law, which does nothing when it runs: a problem has one text that says what is to blame.
+pub fn blames_are_one()
+    ensures { (p : ProblemLists) (a b : List ℕ) → IsBlameText p a → IsBlameText p b → a ≡ b }
 {}

@@ -7,7 +7,7 @@ ghost use Rattle.problem_model.specs.Name.{IsClockName};
 ghost use Rattle.cert_check.specs.declared.what.Clocks.{Clocks};
 ghost use Rattle.cert_check.specs.declared.what.Links.{Links};
 ghost use Rattle.cert_check.specs.declared.what.What.{What};
-ghost use Rattle.widen.specs.Named.{NamesClocks, NamesLinks, NamesWhat, clocks_words, links_words, what_words, stated_words, SaysWhat, IsKindOfClocks, IsKindOfLinks, AreStated};
+ghost use Rattle.widen.specs.Named.{NamesClocks, NamesLinks, NamesWhat, clocks_words, links_words, what_words, stated_words, SaysWhat, IsKindOfClocks, AreStated};
 ghost use Rattle.widen.specs.NamedWords.{clock_names, link_names, named_words, stated_named};
 
 use cert::push_clock;
@@ -46,6 +46,8 @@ pub enum NamedWhat {
     Stamps(NamedClocks),
     /// By how much rates may be off.
     Rates(NamedClocks),
+    /// Gaps between clocks that follow each other, all of them.
+    Gaps,
 }
 
 // The clocks that are meant.
@@ -109,6 +111,7 @@ pub fn what_of(p: &Problem, named: NamedWhat) -> Option<What>
             Some(clocks) => Some(What::Rates(clocks)),
             None => None,
         },
+        NamedWhat::Gaps => Some(What::Gaps),
     }
 }
 
@@ -141,6 +144,9 @@ fn kind_alone(kind: &[u8]) -> Option<NamedWhat>
 {
     if kind == b"least".as_slice() {
         return Some(NamedWhat::Least(NamedLinks::All));
+    }
+    if kind == b"gaps".as_slice() {
+        return Some(NamedWhat::Gaps);
     }
     kind_of_clocks(kind, NamedClocks::All)
 }
@@ -188,7 +194,7 @@ fn kind_and_names(kind: &[u8], names: &[u8]) -> Option<NamedWhat>
 }
 
 /// What the words on the line of a widening name, of which there are some: a kind, and the names of one clock or of two.
-pub fn named_by(body: &[u8]) -> Option<NamedWhat>
+pub(crate) fn named_by(body: &[u8]) -> Option<NamedWhat>
     ensures some { IfSome result (λ n. (kind : List ℕ) × (names : List (List ℕ)) × AreStated (kind ∷ names) × (stated_named n ≡ kind ∷ names) × (body.now ≡ words (kind ∷ names))) }
     ensures none { IfNone result ((kind : List ℕ) (names : List (List ℕ)) → AreStated (kind ∷ names) → body.now ≡ words (kind ∷ names) → ⊥) }
 {
@@ -239,11 +245,12 @@ pub fn push_what(line: &mut Line, p: &Problem, what: What)
         What::Least(which) => push_links(line, p, b"least", which),
         What::Stamps(which) => push_clocks(line, p, b"stamps", which),
         What::Rates(which) => push_clocks(line, p, b"rates", which),
+        What::Gaps => push_word(line, b"gaps"),
     }
 }
 
 /// Appends the words on the line of a widening that name what is widened: none where that is all greatest delays.
-pub fn push_stated(line: &mut Line, p: &Problem, what: What)
+pub(crate) fn push_stated(line: &mut Line, p: &Problem, what: What)
     requires named { NamesWhat p.now what }
     requires room { HasRoomBehind line.old.items 147 }
     ensures appended { (first : List ℕ) (ws : List (List ℕ)) → line.old.items ≡ words (first ∷ ws) → line.new.items ≡ words (first ∷ ws ++ stated_words p.now what) }
@@ -255,5 +262,6 @@ pub fn push_stated(line: &mut Line, p: &Problem, what: What)
         What::Least(_) => push_what(line, p, what),
         What::Stamps(_) => push_what(line, p, what),
         What::Rates(_) => push_what(line, p, what),
+        What::Gaps => push_what(line, p, what),
     }
 }

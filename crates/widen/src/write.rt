@@ -1,6 +1,5 @@
 // Widenings of a problem, written piece by piece.
 ghost use Rattle.std.specs.Prelude.{◌≡◌, ◌++◌, List, Option, Some, None, All};
-ghost use Rattle.line_format.specs.Words.{line_of};
 ghost use Rattle.ports.specs.Content.{Writes};
 ghost use Rattle.problem_model.specs.Nodes.{Reading, AreReadings, nodes_of};
 ghost use Rattle.problem_model.specs.ExecutionText.{value_lines};
@@ -115,9 +114,9 @@ fn write_lines<O: Sink>(p: &Problem, what: What, w: &Widening, out: &mut O) -> R
     }
 }
 
-/// Writes a widening of a problem: its first line, by how much what is named is widened or that nothing heals, its execution and
-/// its cycle, where it has them, and its end. It takes no memory. After `Failed`, which comes only where the sink's count of faults rose, some front of
-/// the text is written.
+/// Writes a widening of a problem: its first line, by how much what is named is widened or that nothing heals, its
+/// execution and its cycle, where it has them, and its end. It takes no memory. After `Failed`, which comes only where
+/// the sink's count of faults rose, some front of the text is written.
 pub fn write_widening<O: Sink>(
     p: &Problem,
     what: What,

@@ -3,7 +3,7 @@ use Rattle.problem_commands.specs.Printing.{IsOnlyText}
 use Rattle.problem_commands.specs.declared.status.Status.TheVariants.{UnknownName}
 use Rattle.std.proofs.Common.{codes}
 use Rattle.problem_commands.proofs.Printing.{closes_prints}
-use Rattle.problem_commands.proofs.Solving.{known_names, unknown_name}
+use Rattle.problem_commands.proofs.EventNames.{known_names, unknown_name}
 use Rattle.problem_commands.proofs.ends.between.Goals as goal
 
 pub returns-in_default : goal.returns-in_default

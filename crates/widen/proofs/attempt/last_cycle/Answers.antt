@@ -43,7 +43,7 @@ returns-then-sum_of-lt0 c =
     let sum : c.sum_of.result ≡ weight_of (weighed_arcs later) = c.sum_of.ensures.value ∙ ap (λ (arcs : List Arc). weight_of (weighed_arcs arcs)) c.deref.ensures.value in
     let low : c.sum_of.result <ℤ pos 0 = omega (arith, ints, c.if-sum_of-lt0.true, c.sum_of.ensures.small) in
     let negative : weight_of (weighed_arcs later) <ℤ pos 0 = subst (λ (z : ℤ). z <ℤ pos 0) sum low in
-    let there : IsCycleFor w p last later = later_cycle w p c.args.extra c.args.arcs.now c.events.ensures.lawful c.requires.cycle last later c.in_ok-later.ensures.same weighed c.in_ok-later.ensures.small negative in (
+    let there : IsCycleFor w p last later = later_cycle w p c.args.extra c.args.arcs.now c.events.ensures.lawful c.requires.cycle w last later c.in_ok-later.ensures.same weighed c.in_ok-later.ensures.small negative in (
       c.last_of-last.ensures.from,
       c.last_of-last.ensures.within,
       cycle_there w p last later c.events.ensures.lawful there c.in_ok-cycle.cycle (c.in_ok-cycle.ensures ∙ ap (map step_of) c.deref-then-sum_of-lt0.ensures.value),
