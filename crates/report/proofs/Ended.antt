@@ -1,15 +1,18 @@
 -- The ends of messages among the events of all labels: how they are counted, and which labels they have.
-use Rattle.std.proofs.Common.{◌≡◌, ◌<◌, ℕ, List, [], ◌∷◌, length, map, get_or, All, sym, subst, ◌∙◌}
+use Rattle.std.proofs.Common.{◌≡◌, ◌<◌, ◌≤◌, ℕ, suc, List, [], ◌∷◌, ◌++◌, length, map, get_or, All, sym, subst, ◌∙◌, arith}
 use Rattle.std.specs.Prelude.{filter}
+use Rattle.std.proofs.lemmas.List.{length-map}
 use Rattle.std.proofs.lemmas.List.Elements.{All-append, All-cons, All-filter, All-head, All-map, All-nil, All-tail}
+use Rattle.std.proofs.lemmas.List.Sorted.{length_permutation}
+use Rattle.problem_model.specs.Limits.{most_events, most_items}
 use Rattle.decl.specs.Declaration.{Declaration}
 use Rattle.traces.specs.declared.event.Side.{Side}
 use Rattle.traces.specs.declared.event.Side.TheVariants.{Send, Receive}
 use Rattle.traces.specs.Seen.{EventKey, Seen, SeenMark, Keyed, Unkeyed}
 use Rattle.traces.specs.declared.event_id.EventId.{EventId}
-use Rattle.traces.specs.Traces.{Placed, events_of}
+use Rattle.traces.specs.Traces.{Placed, event_count, events_of}
 use Rattle.traces.specs.Windows.{by_group, grouped, keys_among}
-use Rattle.traces.proofs.Ids.{ids_within}
+use Rattle.traces.proofs.Ids.{ids_within, length_events}
 use Rattle.msg_match.specs.Groups.{SeenItem}
 use Rattle.msg_match.specs.Messages.{tallies}
 use Rattle.msg_match.specs.Windowed.{grouped_items}
@@ -25,6 +28,20 @@ pub counts_told : (ids : List EventId) (items : List SeenItem) (seen : List (Lis
 counts_told ids items seen are =
     let groups : List SeenItem = grouped_items items in
     sym (tallies_by (name_as_came ids) groups) ∙ sym (tallies_of_moved (ends_among (grouped (events_of seen))) (map (end_at ids) groups) (ends_grouped ids items seen are))
+
+-- they are no more than the events
+one_more : (id : EventId) (mark : SeenMark) (ends : List End) (n : ℕ) → length ends ≤ n → length (end_by_mark id mark ++ ends) ≤ suc n
+one_more id (Unkeyed reason) ends n few = omega (arith, few)
+one_more id (Keyed key side) ends n few = omega (arith, few)
+
+ends_few : (events : List Placed) → length (ends_among events) ≤ length events
+ends_few [] = omega arith
+ends_few (e ∷ events) = one_more e.id e.seen.mark (ends_among events) (length events) (ends_few events)
+
+pub items_few : (ids : List EventId) (items : List SeenItem) (seen : List (List Seen)) → AreEndsBy ids items seen → event_count seen ≤ most_events → length items ≤ most_items
+items_few ids items seen are few =
+    let ends : List End = ends_among (events_of seen) in
+    omega (arith, length-map items (end_at ids), length_permutation ends (map (end_at ids) items) are.ends, ends_few (events_of seen), length_events seen, few)
 
 -- ---- labels
 IsLabelled : Declaration → End → Type 0

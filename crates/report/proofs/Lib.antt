@@ -12,6 +12,9 @@ mod Ended
 mod Whole
 mod Adding
 mod WorkedViews
+mod WorkedAlone
 mod Joined
 mod PassedLabels
 mod DroppedLabels
+mod Apart
+mod Noted

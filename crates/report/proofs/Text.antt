@@ -1,16 +1,17 @@
 -- A report has whole numbers alone, so its text is known byte for byte.
-use Rattle.std.proofs.Common.{◌≡◌, ℕ, Bool, cond, List, [], ◌∷◌, ◌++◌, true, false, length, ◌≤◌, map, Result, refl, sym, subst, ap, ◌∙◌, arith}
+use Rattle.std.proofs.Common.{◌≡◌, ℕ, Bool, cond, List, [], ◌∷◌, ◌++◌, true, false, Option, Some, None, length, ◌≤◌, map, Result, refl, sym, subst, ap, ◌∙◌, arith}
 use Rattle.std.specs.Prelude.{codes, OnOk}
 use Rattle.serde_json.specs.Data.{Data, Members, boolean, member, no_members, object, put, string}
 use Rattle.serde_json.specs.View.{items_of}
 use Rattle.serde_json.specs.Written.{has_float, items_have_float, compact_text}
-use Rattle.report.specs.Report.{Reported, ReportedDrops, ReportedKey, count, dropped_data, drops_data, group_data, groups_data, nokey_data, passed_data, passes_none, report_data, report_line, report_members, with_dropped}
+use Rattle.report.specs.Report.{Reported, ReportedDrops, ReportedKey, count, dropped_data, drops_data, group_data, groups_data, nokey_data, passed_data, passes_none, report_data, report_line, report_members, with_alone, with_dropped}
 use Rattle.report.specs.declared.view.PassedSums.{PassedSums}
-use Rattle.report.specs.Inside.{all_members, put_dropped, put_passed}
+use Rattle.report.specs.Inside.{all_members, put_alone, put_dropped, put_passed}
 
--- the members of a report on these labels with drops, by whether no packet was passed over
-abbrev members_by : Reported → List ReportedDrops → Bool → Members
-members_by v ds none =
+-- the members of a report with this count of keys and on these labels with drops, by whether no packet was passed over
+abbrev members_by : Reported → Option ℕ → List ReportedDrops → Bool → Members
+members_by v alone ds none =
+    with_alone alone (
     member (codes "ambiguous") (groups_data v.groups) (
     member (codes "consistent") (boolean v.consistent) (
     with_dropped ds (
@@ -19,10 +20,10 @@ members_by v ds none =
     member (codes "nokey") (nokey_data v.nokeys) (
     cond none (member (codes "unmatched") (count v.unmatched) no_members) (member (codes "passed") (passed_data v.passed) (
     member (codes "unmatched") (count v.unmatched)
-    no_members))))))))
+    no_members)))))))))
 
-abbrev put_by : Reported → List ReportedDrops → Bool → Members
-put_by v ds none = cond none (put_dropped ds (all_members v)) (put (codes "passed") (passed_data v.passed) (put_dropped ds (all_members v)))
+abbrev put_by : Reported → Option ℕ → List ReportedDrops → Bool → Members
+put_by v alone ds none = put_alone alone (cond none (put_dropped ds (all_members v)) (put (codes "passed") (passed_data v.passed) (put_dropped ds (all_members v))))
 
 texts_whole : (ts : List (List ℕ)) → items_have_float (items_of (map string ts)) ≡ false
 texts_whole [] = refl
@@ -37,23 +38,31 @@ drops_whole [] = refl
 drops_whole (d ∷ ds) = drops_whole ds
 
 report_whole : (v : Reported) → has_float (report_data v) ≡ false
-report_whole v = by v.dropped (passes_none v.passed)
+report_whole v = by v.alone v.dropped (passes_none v.passed)
   where
-    by : (ds : List ReportedDrops) (none : Bool) → has_float (object (members_by v ds none)) ≡ false
-    by [] true = rw (groups_whole v.groups) refl
-    by [] false = rw (groups_whole v.groups) refl
-    by (d ∷ ds) true = rw (groups_whole v.groups, drops_whole ds) refl
-    by (d ∷ ds) false = rw (groups_whole v.groups, drops_whole ds) refl
+    by : (alone : Option ℕ) (ds : List ReportedDrops) (none : Bool) → has_float (object (members_by v alone ds none)) ≡ false
+    by None [] true = rw (groups_whole v.groups) refl
+    by None [] false = rw (groups_whole v.groups) refl
+    by None (d ∷ ds) true = rw (groups_whole v.groups, drops_whole ds) refl
+    by None (d ∷ ds) false = rw (groups_whole v.groups, drops_whole ds) refl
+    by (Some n) [] true = rw (groups_whole v.groups) refl
+    by (Some n) [] false = rw (groups_whole v.groups) refl
+    by (Some n) (d ∷ ds) true = rw (groups_whole v.groups, drops_whole ds) refl
+    by (Some n) (d ∷ ds) false = rw (groups_whole v.groups, drops_whole ds) refl
 
 -- the members that were put are those of the report
-pub put_all : (v : Reported) → put_passed v.passed (put_dropped v.dropped (all_members v)) ≡ report_members v
-put_all v = by v.dropped (passes_none v.passed)
+pub put_all : (v : Reported) → put_alone v.alone (put_passed v.passed (put_dropped v.dropped (all_members v))) ≡ report_members v
+put_all v = by v.alone v.dropped (passes_none v.passed)
   where
-    by : (ds : List ReportedDrops) (none : Bool) → put_by v ds none ≡ members_by v ds none
-    by [] true = refl
-    by [] false = refl
-    by (d ∷ ds) true = refl
-    by (d ∷ ds) false = refl
+    by : (alone : Option ℕ) (ds : List ReportedDrops) (none : Bool) → put_by v alone ds none ≡ members_by v alone ds none
+    by None [] true = refl
+    by None [] false = refl
+    by None (d ∷ ds) true = refl
+    by None (d ∷ ds) false = refl
+    by (Some n) [] true = refl
+    by (Some n) [] false = refl
+    by (Some n) (d ∷ ds) true = refl
+    by (Some n) (d ∷ ds) false = refl
 
 -- ---- members that are put
 -- where there are none, nothing is put

@@ -1,5 +1,5 @@
 -- What the parts of a report promise each other.
-use Rattle.std.specs.Prelude.{ℕ, ◌+◌, ◌*◌, ◌^◌, ◌<◌, ◌≤◌, List, [], ◌∷◌, length, map, count_by, cond, codes, All}
+use Rattle.std.specs.Prelude.{ℕ, ◌+◌, ◌*◌, ◌^◌, ◌<◌, ◌≤◌, List, [], ◌∷◌, length, map, count_by, cond, codes, All, Option, Some, None}
 use Rattle.captures.specs.Capture.{Passed}
 use Rattle.serde_json.specs.Data.{Members, boolean, member, no_members, put}
 use Rattle.decl.specs.Declaration.{Declaration}
@@ -58,6 +58,11 @@ all_members v =
     member (codes "nokey") (nokey_data v.nokeys) (
     member (codes "unmatched") (count v.unmatched)
     no_members)))))
+
+-- these with a count of keys, where there is one
+abbrev pub put_alone : Option ℕ → Members → Members
+put_alone None members = members
+put_alone (Some n) members = put (codes "alone") (count n) members
 
 -- these with the labels under which packets were dropped, if there are any
 abbrev pub put_dropped : List ReportedDrops → Members → Members

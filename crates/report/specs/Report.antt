@@ -1,6 +1,6 @@
 -- What is reported, as data of JSON (RFC 8259), and its line. An object's keys stand in byte order. A key of a message may
 -- have a quotation mark or a backslash in it: how JSON escapes it is a matter of `compact_text`.
-use Rattle.std.specs.Prelude.{ℕ, Bool, cond, ◌==◌, ◌&&◌, List, [], ◌∷◌, ◌++◌, map, codes}
+use Rattle.std.specs.Prelude.{ℕ, Bool, cond, ◌==◌, ◌&&◌, List, [], ◌∷◌, ◌++◌, map, codes, Option, Some, None}
 use Rattle.std.specs.Str.{IsAscii}
 use Rattle.serde_json.specs.Data.{Data, Members, boolean, number, unsigned, string, array, object, member, no_members}
 use Rattle.serde_json.specs.View.{items_of}
@@ -23,8 +23,9 @@ pub record ReportedDrops : Type 0 where
   pub label : List ℕ
   pub dropped : Dropped
 
--- all that is reported
+-- all that is reported; keys that stand alone are counted where a window is declared
 pub record Reported : Type 0 where
+  pub alone : Option ℕ
   pub events : ℕ
   pub messages : ℕ
   pub unmatched : ℕ
@@ -100,9 +101,15 @@ passes_none p = (p.obsolete == 0) && (p.other == 0) && (p.simple == 0)
 abbrev pub with_passed : PassedSums → Members → Members
 with_passed p more = cond (passes_none p) more (member (codes "passed") (passed_data p) more)
 
+-- a count and more members; where nothing is counted, these alone
+abbrev pub with_alone : Option ℕ → Members → Members
+with_alone None more = more
+with_alone (Some n) more = member (codes "alone") (count n) more
+
 -- the members of a report, its keys in the order of their bytes
 abbrev pub report_members : Reported → Members
 report_members v =
+    with_alone v.alone (
     member (codes "ambiguous") (groups_data v.groups) (
     member (codes "consistent") (boolean v.consistent) (
     with_dropped v.dropped (
@@ -111,7 +118,7 @@ report_members v =
     member (codes "nokey") (nokey_data v.nokeys) (
     with_passed v.passed (
     member (codes "unmatched") (count v.unmatched)
-    no_members)))))))
+    no_members))))))))
 
 -- the whole report
 abbrev pub report_data : Reported → Data
@@ -133,6 +140,7 @@ reported_drops d = record { label = d.label; dropped = d.dropped }
 -- all of it
 abbrev pub reported : View → Reported
 reported v = record {
+  alone = v.alone;
   events = v.events;
   messages = v.messages;
   unmatched = v.unmatched;

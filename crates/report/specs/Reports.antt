@@ -1,5 +1,5 @@
 -- What is reported of the events of all labels, and of the packets that have none.
-use Rattle.std.specs.Prelude.{ℕ, List, [], ◌∷◌, ◌++◌, length, map, count_by, sum_by, Bool, true, false, cond, ◌==◌, ◌&&◌}
+use Rattle.std.specs.Prelude.{ℕ, List, [], ◌∷◌, ◌++◌, length, map, count_by, sum_by, option_map, Bool, true, false, cond, ◌==◌, ◌&&◌}
 use Rattle.captures.specs.Capture.{Dropped}
 use Rattle.decl.specs.declared.items.Label.{Label}
 use Rattle.decl.specs.Declaration.{Declaration}
@@ -11,6 +11,7 @@ use Rattle.traces.specs.Windows.{grouped}
 use Rattle.traces.specs.Messages.{messages_of}
 use Rattle.msg_match.specs.Ends.{ends_among}
 use Rattle.msg_match.specs.Ambiguous.{EndGroup, ambiguous_ends, tallies_of}
+use Rattle.report.specs.Alone.{alone_among}
 use Rattle.report.specs.declared.view.NoKeys.{NoKeys}
 use Rattle.report.specs.declared.view.PassedSums.{PassedSums}
 use Rattle.report.specs.Report.{Reported, ReportedDrops, ReportedKey, report_line}
@@ -89,6 +90,7 @@ report_of d seen missed consistent =
     let events = events_of seen in
     let ends = ends_among (grouped events) in
     record {
+      alone = option_map (λ window. alone_among ends) d.window;
       events = length events;
       messages = length (messages_of events);
       unmatched = (tallies_of ends).unmatched;

@@ -134,8 +134,8 @@ fn sort_keys(keys: &mut [Ambiguous<'_>])
 /// The ambiguous keys, each with the names of its events, in the order of their first events by label and then by number; an
 /// error where memory runs out.
 ///
-/// The time goes by the keys, and by n log n for the n events of those that are ambiguous. Memory is taken for these keys and
-/// the names of their events alone.
+/// The time goes by the keys, and by n log n for the n events of those that are ambiguous. Memory is taken for these
+/// keys and the names of their events alone.
 pub(crate) fn keys_in_order<'a>(
     alloc: Global,
     roster: &Roster,

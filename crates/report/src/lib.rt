@@ -1,12 +1,13 @@
-//! Reports on traces: how many events and messages there are, how many packets were passed over or dropped, how many events
-//! have no key or no partner, and which keys are ambiguous, with the texts of keys and the names of events, as one line of JSON
-//! (RFC 8259); and the order and the lines of events that are merged.
+//! Reports on traces: how many events and messages there are, how many packets were passed over or dropped, how many
+//! events have no key or no partner, and which keys are ambiguous, with the texts of keys and the names of events, as
+//! one line of JSON (RFC 8259); and the order and the lines of events that are merged.
 //!
 //! A report has no space between its parts, and an object's keys stand in byte order. What it is made of comes in as a
 //! `View`, which `trace_view` makes of the events of all labels; the line knows nothing of sessions or of how messages
 //! are found.
 #![tactic(auto)]
 
+mod alone;
 mod ambiguous;
 mod dropped_labels;
 mod fragments;

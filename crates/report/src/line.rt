@@ -11,6 +11,7 @@ use std::alloc::{AllocError, Global};
 ///
 /// | Key | Its value |
 /// |---|---|
+/// | `alone` | how many keys stand alone, as the view counts them; where it does not, there is no such key |
 /// | `ambiguous` | an array with an object for each ambiguous key: its text as `key`, and the names of its events as `receives` and `sends`, in the order of the view |
 /// | `consistent` | whether what is declared has an execution |
 /// | `dropped` | an array with an object for each label under which packets were dropped before they were captured: its name as `label`, and the fields of `Dropped` of `captures`; where none were, there is no such key |

@@ -77,8 +77,8 @@ fn write_text<O: Sink>(head: &[u8], text: &[u8], out: &mut O) -> Result<(), Fail
     write_whole(out, b"\n")
 }
 
-/// Writes the line of an event: its real time, given in units of 1e-9 ns, as ns text; its name; and what an event log says of
-/// it, unless that is empty. It takes no memory.
+/// Writes the line of an event: its real time, given in units of 1e-9 ns, as ns text; its name; and what an event log
+/// says of it, unless that is empty. It takes no memory.
 ///
 /// `Failed` comes only where the sink's count of faults rose, or stands at its last value; a front of the line is then
 /// written.

@@ -165,9 +165,9 @@ fn word_text(alloc: Global, word: &WordKey) -> Result<Vec<u8>, AllocError>
     Ok(text)
 }
 
-/// The text of what a message is known by, in ASCII; an error where memory runs out. It is `log` and the word of a message in event logs, or for
-/// a packet the protocol, both addresses with their ports, and the other fields of the key by their names; for a fragment
-/// `fragment`, both addresses, and these fields.
+/// The text of what a message is known by, in ASCII; an error where memory runs out. It is `log` and the word of a
+/// message in event logs, or for a packet the protocol, both addresses with their ports, and the other fields of the
+/// key by their names; for a fragment `fragment`, both addresses, and these fields.
 pub fn key_text(alloc: Global, key: &MessageKey) -> Result<Vec<u8>, AllocError>
     ensures text { IfOk result (λ text. text.items ≡ key_text (message_of key.now)) }
     ensures ascii { IfOk result (λ text. IsAscii text.items) }

@@ -10,6 +10,7 @@ ghost use Rattle.report.specs.Report.{HasAsciiKey, reported};
 ghost use Rattle.report.specs.Reports.{report_of};
 
 use crate::View;
+use crate::alone::keys_alone;
 use crate::ambiguous::keys_in_order;
 use crate::dropped_labels::dropped_labels;
 use crate::key_names::named_keys;
@@ -25,8 +26,9 @@ use traces::{Accepted, event_count};
 /// events has an execution; an error where memory runs out. The matcher has the ends of messages among these events, by
 /// the roster's numbers and in whatever order they were added to it.
 ///
-/// The time goes by the events, and by n log n for the n events of ambiguous keys. Memory is taken for these keys, their
-/// texts and the names of their events, and for the labels under which packets were dropped, alone.
+/// The time goes by the events, and by n log n for the n events of ambiguous keys and, where a window is declared, for the n
+/// groups of events. Memory is taken for the ambiguous keys, their texts and the names of their events, for the labels
+/// under which packets were dropped, and where a window is declared for references to the keys of all groups, alone.
 pub fn view_of(
     alloc: Global,
     decl: &Decl,
@@ -42,11 +44,13 @@ pub fn view_of(
     ensures view { IfOk result (λ view. reported view ≡ report_of (declaration_of decl.now) (seen_in accepted.now) (missed_in accepted.now) consistent) }
     ensures ascii { IfOk result (λ view. All HasAsciiKey view.groups.items) }
 {
+    let alone = keys_alone(alloc, decl, matcher)?;
     let keys = keys_in_order(alloc, roster, matcher)?;
     let groups = named_keys(alloc, decl, &keys)?;
     let dropped = dropped_labels(alloc, decl, accepted)?;
     let tallies = matcher.tallies();
     Ok(View {
+        alone,
         events: event_count(accepted) as u32,
         messages: tallies.messages,
         unmatched: tallies.unmatched,

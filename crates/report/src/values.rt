@@ -4,7 +4,7 @@ ghost use Rattle.std.specs.Str.{IsAscii};
 ghost use Rattle.serde_json.specs.Data.{string};
 ghost use Rattle.serde_json.specs.View.{members_view, view};
 ghost use Rattle.report.specs.Report.{HasAsciiKey, dropped_data, drops_data, group_data, groups_data, nokey_data, passed_data, passes_none, report_data, reported, reported_drops, reported_key, texts};
-ghost use Rattle.report.specs.Inside.{all_members, put_dropped, put_passed};
+ghost use Rattle.report.specs.Inside.{all_members, put_alone, put_dropped, put_passed};
 
 use crate::{LabelDrops, NamedGroup, NoKeys, PassedSums, View};
 use problem_model::Name;
@@ -137,6 +137,20 @@ fn members_of(alloc: Global, v: &View) -> Result<Map<String, Value>, AllocError>
     Ok(members)
 }
 
+// Puts the number of keys that stand alone, where they are counted.
+fn put_alone(
+    alloc: Global,
+    alone: Option<u32>,
+    members: &mut Map<String, Value>,
+) -> Result<(), AllocError>
+    ensures { OnOk result (members_view members.new.entries ≡ put_alone alone (members_view members.old.entries)) }
+{
+    match alone {
+        None => Ok(()),
+        Some(count) => put(members, alloc, "alone", Value::from(count)),
+    }
+}
+
 // Puts the labels under which packets were dropped, if there are any.
 fn put_dropped(
     alloc: Global,
@@ -173,5 +187,6 @@ pub(crate) fn report_value(alloc: Global, v: &View) -> Result<Value, AllocError>
     let mut members = members_of(alloc, v)?;
     put_dropped(alloc, &v.dropped, &mut members)?;
     put_passed(alloc, &v.passed, &mut members)?;
+    put_alone(alloc, v.alone, &mut members)?;
     Ok(Value::from(members))
 }

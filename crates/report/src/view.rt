@@ -58,6 +58,9 @@ pub struct NamedGroup {
 /// What is to be reported. No field is tied to another one.
 #[derive(Debug, Drop)]
 pub struct View {
+    /// How many keys stand alone: they are sent and received, and never in one group of events that may belong together;
+    /// None where no window is declared.
+    pub alone: Option<u32>,
     /// How many events there are.
     pub events: u32,
     /// How many messages there are.

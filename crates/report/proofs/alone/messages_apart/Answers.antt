@@ -1,0 +1,7 @@
+use Rattle.std.proofs.Common.{refl}
+use Rattle.report.specs.Groups.{is_apart, noted}
+use Rattle.report.proofs.Noted.{next_noted}
+use Rattle.report.proofs.alone.messages_apart.Goals as goal
+
+pub loop-group-preserved : goal.loop-group-preserved
+loop-group-preserved c = next_noted (is_apart (noted c.args.received.now) (noted c.args.met.now)) c.args.groups.now c.loop-group.group-index c.group-item.result _ _ _ _ c.loop-group-test.true c.group-item.is refl c.is_apart.ensures c.loop-group.invariant c.in_ok-note.ensures
