@@ -2,13 +2,14 @@
 use Rattle.std.proofs.Common.{◌≡◌, inl, inr, List, ℕ, [], ◌∷◌, Option, Some, None, cond, codes, refl}
 use Rattle.std.specs.Str.{bytes_eq}
 use Rattle.queries.specs.declared.comparison.Asked.TheVariants as asked
-use Rattle.replies.specs.Commands.{Command, Add, Keep, Ask, Question, Compare, Time, Merge, Prove, Problem, Report, command_words, IsReadOff}
+use Rattle.replies.specs.Commands.{Command, Add, Keep, Ask, Question, Compare, Time, Merge, Prove, Problem, Report, Blame, command_words, IsReadOff}
 
 -- the command that has these words
 abbrev pub command_of : List (List ℕ) → Option Command
 command_of [] = None
 command_of (name ∷ []) =
-    cond (bytes_eq name (codes "merge")) (Some (Ask Merge)) (cond (bytes_eq name (codes "problem")) (Some (Ask Problem)) (cond (bytes_eq name (codes "report")) (Some (Ask Report)) None))
+    cond (bytes_eq name (codes "merge")) (Some (Ask Merge)) (cond (bytes_eq name (codes "problem")) (Some (Ask Problem))
+    (cond (bytes_eq name (codes "report")) (Some (Ask Report)) (cond (bytes_eq name (codes "blame")) (Some (Ask Blame)) None)))
 command_of (name ∷ event ∷ []) = cond (bytes_eq name (codes "time")) (Some (Ask (Time event))) (Some (Keep event))
 command_of (name ∷ first ∷ second ∷ []) =
     cond (bytes_eq name (codes "add")) (Some (Add first second)) (cond (bytes_eq name (codes "interval")) (Some (Ask (Compare asked.Interval first second)))
@@ -25,6 +26,7 @@ words_tell (Ask Merge) = refl
 words_tell (Ask (Prove first second)) = refl
 words_tell (Ask Problem) = refl
 words_tell (Ask Report) = refl
+words_tell (Ask Blame) = refl
 
 -- what is read off rows of some events is read off rows of others, where all of those are among these
 module _ (Has Other : List ℕ → Type 0) (each : (name : List ℕ) → Has name → Other name) where
@@ -36,3 +38,4 @@ module _ (Has Other : List ℕ → Type 0) (each : (name : List ℕ) → Has nam
   read_off (Prove first second) is = each first is
   read_off Problem is = tt
   read_off Report is = tt
+  read_off Blame is = absurd is

@@ -30,13 +30,14 @@ use Rattle.queries.specs.Consistent.{IsConsistent}
 use Rattle.queries.specs.declared.comparison.Asked.{Asked}
 use Rattle.queries.specs.declared.comparison.Asked.TheVariants as questions
 use Rattle.queries.specs.Replies.{HasReading, IsIntervalLine, IsOrderLine, IsComparisonLine, IsProofText, IsTimeLine, Replies}
+use Rattle.widen.specs.Blame.{IsBlameText}
 use Rattle.replies.specs.Merged.{IsMergeText}
 use Rattle.report.specs.Reports.{report_text}
 use Rattle.replies.specs.declared.outcome.Aside.{Aside}
 use Rattle.replies.specs.declared.refusal.Refusal.{Refusal}
 use Rattle.replies.specs.declared.refusal.Refusal.TheVariants.{NoCommand, UnknownLabel, UnreadFile, TooManyBytes, TooManyEvents}
 use Rattle.replies.specs.Refusals.{log_refusal, capture_refusal}
-use Rattle.replies.specs.Commands.{Command, Add, Keep, Ask, Question, Compare, Time, Merge, Prove, Problem, Report, Asks}
+use Rattle.replies.specs.Commands.{Command, Add, Keep, Ask, Question, Compare, Time, Merge, Prove, Problem, Report, Blame, Asks}
 use Rattle.replies.specs.Reply.{State, Found, Unread, Bytes, Absent, Failed, Refuses, OfTwo, OfOne, IsTimeReply, IsReport, IsAnswerTo, added_line, added_by, count_by, IsAdded, aside_of, AcceptReply, with_rows, IsLogRefusal, LogReply, bytes_of, IsCaptureRefusal, CaptureReply, KindReply, fits_label, PieceReply, label_at, AddReply, IsPlacedAt, kept_line, SlotReply, KeepReply, Reply, AreKept}
 use Rattle.replies.specs.Sessions.{CommandReply, LineReply}
 use Rattle.replies.specs.OneReply.{IsState, AreContradictions, MayDiffer, LineMayDiffer}
@@ -53,6 +54,7 @@ pub record Below : Type 0 where
   pub order : (p : ProblemLists) (from to : ℕ) (a b : List ℕ) → ((x : Times) × IsExecution p x) → IsOrderLine p from to a → IsOrderLine p from to b → a ≡ b
   pub time : (p : ProblemLists) (clock event : ℕ) (a b : List ℕ) → HasReading p clock → IsTimeLine p clock event a → IsTimeLine p clock event b → a ≡ b
   pub merge : (d : Declaration) (seen : List (List Seen)) (a b : List ℕ) → IsMergeText d seen a → IsMergeText d seen b → a ≡ b
+  pub blame : (p : ProblemLists) (a b : List ℕ) → IsBlameText p a → IsBlameText p b → a ≡ b
   pub capture : (s : List ℕ) (a b : captures.Capture) → Reads s a → Reads s b → a ≡ b
   pub capture_fault : (s : List ℕ) (e f : CaptureError) → IsFault s e → IsFault s f → e ≢ refused.Memory → f ≢ refused.Memory → e ≡ f
   pub judged : (s : List ℕ) (c : captures.Capture) (e : CaptureError) → Reads s c → IsFault s e → e ≢ refused.Memory → ⊥
@@ -288,6 +290,7 @@ module _ (below : Below) where
       (λ i j at at' one two some is is'. inr (inr (i, j, at, at', some, proofs_one p i j one two lawful (event_within p i first at) is is'))) a b x y
   one_answer_to Problem d seen missed lawful a b x y = inl (x ∙ sym y)
   one_answer_to Report d seen missed lawful a b x y = inl (one_report d seen missed a b x y)
+  one_answer_to Blame d seen missed lawful a b x y = inl (below.blame (problem_of_seen d seen) a b x y)
 
   -- ---- lines
   one_reply : (d : Declaration) (s : State) (c : Command) (found : Found) → IsProblem (problem_of d s.traces) → AreKept (seen_by d s.traces) s.kept →

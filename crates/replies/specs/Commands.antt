@@ -17,6 +17,7 @@ pub data Question : Type 0 where
   Prove : List ℕ → List ℕ → Question
   Problem : Question
   Report : Question
+  Blame : Question
 
 -- a command with its words: a label and a path, the name of an event, or a question
 pub data Command : Type 0 where
@@ -44,6 +45,7 @@ command_words (Ask Merge) = codes "merge" ∷ []
 command_words (Ask (Prove first second)) = codes "prove" ∷ first ∷ second ∷ []
 command_words (Ask Problem) = codes "problem" ∷ []
 command_words (Ask Report) = codes "report" ∷ []
+command_words (Ask Blame) = codes "blame" ∷ []
 
 -- the line spells this command, or none
 abbrev pub Asks : List ℕ → Option Command → Type 0
@@ -65,6 +67,7 @@ TakesMemory (Ask Merge) = ⊤
 TakesMemory (Ask (Prove first second)) = ⊥
 TakesMemory (Ask Problem) = ⊥
 TakesMemory (Ask Report) = ⊤
+TakesMemory (Ask Blame) = ⊤
 
 -- the line spells a command that may be answered by `Memory`
 abbrev pub AsksForMemory : List ℕ → Type 0
@@ -78,6 +81,7 @@ IsReadOff HasRows Merge = ⊤
 IsReadOff HasRows (Prove first second) = HasRows first
 IsReadOff HasRows Problem = ⊤
 IsReadOff HasRows Report = ⊤
+IsReadOff HasRows Blame = ⊥
 
 -- ---- the code
 -- a question of the code, by its words
@@ -88,6 +92,7 @@ question_seen questions.Merge = Merge
 question_seen (questions.Prove first second) = Prove first.now second.now
 question_seen questions.Problem = Problem
 question_seen questions.Report = Report
+question_seen questions.Blame = Blame
 
 -- a command of the code, by its words
 abbrev pub command_seen : parsed.Command → Command

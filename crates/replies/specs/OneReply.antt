@@ -9,7 +9,7 @@ use Rattle.decl.specs.Declaration.{Declaration}
 use Rattle.traces.specs.Traces.{Trace, IsOfKind, seen_by}
 use Rattle.traces.specs.Making.{StampsFit}
 use Rattle.queries.specs.Replies.{IsContradictionText}
-use Rattle.replies.specs.Commands.{Command, Add, Keep, Ask, Compare, Time, Merge, Prove, Problem, Report, Asks}
+use Rattle.replies.specs.Commands.{Command, Add, Keep, Ask, Compare, Time, Merge, Prove, Problem, Report, Blame, Asks}
 use Rattle.replies.specs.Reply.{State, count_by, AreKept}
 use Rattle.replies.specs.OneProof.{AreOneProof}
 
@@ -42,6 +42,7 @@ MayDiffer p (Ask Merge) a b = AreContradictions p a b
 MayDiffer p (Ask (Prove first second)) a b = AreContradictions p a b ⊎ AreProofs p first second a b
 MayDiffer p (Ask Problem) a b = ⊥
 MayDiffer p (Ask Report) a b = ⊥
+MayDiffer p (Ask Blame) a b = ⊥
 
 -- how two replies to a line may differ: as those to the command that it spells
 abbrev pub LineMayDiffer : ProblemLists → List ℕ → List ℕ → List ℕ → Type 0

@@ -23,6 +23,7 @@ use Rattle.traces.specs.declared.event_id.Couple.{Couple}
 use Rattle.traces.specs.Traces.{Trace, Captured, Logged, Traces, Missed, Placed, missed_of, passed_of, seen_by, bytes_accepted, events_of, event_count}
 use Rattle.traces.specs.Messages.{messages_of, missing, problem_of, problem_of_seen}
 use Rattle.queries.specs.Consistent.{IsConsistent}
+use Rattle.widen.specs.Blame.{IsBlameText}
 use Rattle.queries.specs.Replies.{HasReading, IsComparisonLine, IsProofText, IsTimeLine, Replies}
 use Rattle.replies.specs.Merged.{IsMergeText}
 use Rattle.report.specs.Reports.{report_text}
@@ -31,7 +32,7 @@ use Rattle.replies.specs.declared.outcome.Aside.{Aside}
 use Rattle.replies.specs.declared.refusal.Refusal.{Refusal}
 use Rattle.replies.specs.declared.refusal.Refusal.TheVariants.{UnknownLabel, UnreadFile, TooManyBytes, TooManyEvents, UnknownEvent, NoSourceTime, EightAreKept}
 use Rattle.replies.specs.Refusals.{refusal_line, log_refusal, capture_refusal}
-use Rattle.replies.specs.Commands.{Command, Add, Keep, Ask, Question, Compare, Time, Merge, Prove, Problem, Report}
+use Rattle.replies.specs.Commands.{Command, Add, Keep, Ask, Question, Compare, Time, Merge, Prove, Problem, Report, Blame}
 
 -- what a session has: the traces, and the events that are kept
 pub record State : Type 0 where
@@ -84,6 +85,7 @@ IsAnswerTo Merge d seen missed = Replies (problem_of_seen d seen) (IsMergeText d
 IsAnswerTo (Prove first second) d seen missed = let p = problem_of_seen d seen in OfTwo p first second (IsProofText p)
 IsAnswerTo Problem d seen missed = λ text. text ≡ problem_text (problem_of_seen d seen)
 IsAnswerTo Report d seen missed = IsReport d seen missed
+IsAnswerTo Blame d seen missed = IsBlameText (problem_of_seen d seen)
 
 -- ---- additions
 -- whether there is an execution, as a word

@@ -37,6 +37,9 @@ pub enum Question<'a> {
     Problem,
     /// What there is to say of all events.
     Report,
+    /// By how much each declared bound, or group of bounds, has to be wider so that it alone heals a contradiction, as
+    /// `tracesync blame` says it of the problem.
+    Blame,
 }
 
 /// What a line asks for. Each word is 1 byte or more from 33 to 126.
@@ -142,6 +145,8 @@ fn command_of_one(name: &[u8]) -> Option<Command<'_>>
         Some(Command::Ask(Question::Problem))
     } else if name == b"report".as_slice() {
         Some(Command::Ask(Question::Report))
+    } else if name == b"blame".as_slice() {
+        Some(Command::Ask(Question::Blame))
     } else {
         None
     }

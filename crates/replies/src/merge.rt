@@ -87,13 +87,14 @@ fn write_held<N: Listing, O: Sink>(
     Ok(())
 }
 
-/// Writes `merge` and the number of all events, and then a line for each: its time in the earliest execution of the problem
-/// as ns text, its name, and what an event log says of it. The lines are sorted by time, then by label, then by number. Where
-/// the problem has no execution, it writes the certificate of a contradiction. The solver holds the answer of the problem, and
-/// an event's time is the value of the node that the listing gives for it; so no step is taken.
+/// Writes `merge` and the number of all events, and then a line for each: its time in the earliest execution of the
+/// problem as ns text, its name, and what an event log says of it. The lines are sorted by time, then by label, then by
+/// number. Where the problem has no execution, it writes the certificate of a contradiction. The solver holds the
+/// answer of the problem, and an event's time is the value of the node that the listing gives for it; so no step is
+/// taken.
 ///
-/// `Memory` is answered for want of memory, and nothing is written then. `WriteFault` is answered only where the sink's count
-/// of faults rose, or stands at its last value; a front of such a reply is then written.
+/// `Memory` is answered for want of memory, and nothing is written then. `WriteFault` is answered only where the sink's
+/// count of faults rose, or stands at its last value; a front of such a reply is then written.
 pub fn write_merge<N: Listing, O: Sink>(
     alloc: Global,
     decl: &Decl,

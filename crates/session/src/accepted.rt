@@ -91,8 +91,8 @@ fn append(held: &mut Vec<Event>, mut events: Vec<Event>) -> Result<(), AllocErro
     held.append(&mut events)
 }
 
-/// Appends events to those of the label at a place, which came in so many bytes, and notes what is then kept of its bytes; for
-/// want of memory all stays.
+/// Appends events to those of the label at a place, which came in so many bytes, and notes what is then kept of its
+/// bytes; for want of memory all stays.
 pub(crate) fn extend(
     accepted: &mut [Accepted],
     k: usize,

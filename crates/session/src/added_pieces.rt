@@ -71,8 +71,8 @@ impl Session {
         }
     }
 
-    /// Adds the file at a path to the label at a place. `completed`, which has no packets yet, gets those that a capture's bytes
-    /// complete, where they are to be kept.
+    /// Adds the file at a path to the label at a place. `completed`, which has no packets yet, gets those that a
+    /// capture's bytes complete, where they are to be kept.
     pub(crate) fn add_under<F: Files, L: Ledger>(
         &mut self,
         k: usize,

@@ -12,6 +12,7 @@ ghost use Rattle.replies.specs.Reply.{IsAnswerTo};
 ghost use Rattle.session_answers.specs.Ready.{AreAnswersOf, declared};
 ghost use Rattle.session_answers.specs.Keeping.{HasSlotBy};
 
+use crate::blames::write_blame;
 use crate::lines::written;
 use crate::reports::write_report;
 use atto::Steps;
@@ -64,5 +65,6 @@ pub(crate) fn answer<O: Sink, L: Ledger>(
         }
         Question::Problem => written(write_roster(names, out)),
         Question::Report => write_report(alloc, accepted, names, matcher, solver, out),
+        Question::Blame => write_blame(alloc, names, out, steps),
     }
 }

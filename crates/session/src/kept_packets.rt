@@ -53,11 +53,11 @@ fn store(
 }
 
 impl Session {
-    /// Adds a file by a line `add LABEL PATH`, which is given without its line feed and has at most 4,096 bytes, as `step`
-    /// does, and appends the packets that a capture's bytes complete to those that are kept: as they stand, by the place of the
-    /// label and the number of the event there, at time 0. No reply is written. `Accepted` is answered exactly where the
-    /// reply tells what was added; else the reply is a refusal, and nothing is kept. A line that asks for anything else
-    /// is refused as one that spells no command.
+    /// Adds a file by a line `add LABEL PATH`, which is given without its line feed and has at most 4,096 bytes, as
+    /// `step` does, and appends the packets that a capture's bytes complete to those that are kept: as they stand, by
+    /// the place of the label and the number of the event there, at time 0. No reply is written. `Accepted` is answered
+    /// exactly where the reply tells what was added; else the reply is a refusal, and nothing is kept. A line that asks
+    /// for anything else is refused as one that spells no command.
     ///
     /// The steps of its searches are counted. No call before ran out of memory. An error is answered where memory runs out,
     /// which it may only on a line that asks for an addition; then nothing is promised of the session and of the packets.

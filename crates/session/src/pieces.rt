@@ -41,9 +41,9 @@ pub enum Piece {
     Refused(Refusal),
 }
 
-/// Reads a piece for a label of this origin, under which this is kept, where there is room for so many events more.
-/// It is read to its end, and no more rows or packets are held than there is room for. `packets`, which has none yet, gets those
-/// that a capture's piece completes.
+/// Reads a piece for a label of this origin, under which this is kept, where there is room for so many events more. It
+/// is read to its end, and no more rows or packets are held than there is room for. `packets`, which has none yet, gets
+/// those that a capture's piece completes.
 pub(crate) fn read_piece(
     alloc: Global,
     origin: &Origin,

@@ -22,8 +22,8 @@ use solver::Solver;
 use std::alloc::Global;
 use traces::Accepted;
 
-/// Writes the report on all events, of which the roster has the declaration and the names by number, and the matcher the ends of
-/// messages, and the solver holds the answer; and on the packets that have none.
+/// Writes the report on all events, of which the roster has the declaration and the names by number, and the matcher
+/// the ends of messages, and the solver holds the answer; and on the packets that have none.
 pub(crate) fn write_report<O: Sink>(
     alloc: Global,
     accepted: &[Accepted],

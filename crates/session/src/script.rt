@@ -75,11 +75,11 @@ fn answer_lines<F: Files, I: Source, O: Sink, L: Ledger>(
 /// asks for, and writes its reply before it reads the next line. A line without a line feed at the end of the script is a
 /// line too.
 ///
-/// `Done` comes where the whole script was taken, and no line of it lacks its reply; `ReadFault` where the script
-/// could not be read on, and `Limit` where it has more than 2^30 bytes, when each line that is whole before that has its
-/// reply, and nothing else is written; `WriteFault` where a write failed, when a front of the replies to the first of these
-/// lines is written; `Memory` where memory ran out, in a line that may ask for it: the lines before it have their replies, and
-/// nothing of its own reply is written. A file that cannot be read is a reply, and no end.
+/// `Done` comes where the whole script was taken, and no line of it lacks its reply; `ReadFault` where the script could
+/// not be read on, and `Limit` where it has more than 2^30 bytes, when each line that is whole before that has its
+/// reply, and nothing else is written; `WriteFault` where a write failed, when a front of the replies to the first of
+/// these lines is written; `Memory` where memory ran out, in a line that may ask for it: the lines before it have their
+/// replies, and nothing of its own reply is written. A file that cannot be read is a reply, and no end.
 pub fn answer_script<F: Files, I: Source, O: Sink, L: Ledger>(
     alloc: Global,
     decl: Decl,

@@ -77,9 +77,9 @@ impl Session {
         })
     }
 
-    /// Whether lines may be answered: no call before ran out of memory. Then what stands ready is of all that was accepted: the
-    /// graph is that of its problem, with what is known of it as it is now, with the rows of the kept events and of the source,
-    /// and with at most eight arcs for each event, withdrawn ones included.
+    /// Whether lines may be answered: no call before ran out of memory. Then what stands ready is of all that was
+    /// accepted: the graph is that of its problem, with what is known of it as it is now, with the rows of the kept
+    /// events and of the source, and with at most eight arcs for each event, withdrawn ones included.
     pub fn is_ready(&self) -> bool
         ensures ready { IsTrue result ↔ IsReady self.now }
         ensures current { IfSome self.now.answers (IsKeptUp self.now) }
@@ -88,14 +88,16 @@ impl Session {
     }
 
     /// Writes the reply to a line, which is given without its line feed and has at most 4,096 bytes. A command that is
-    /// refused changes nothing. The steps of its searches are counted: `time`, `merge`, `problem` and `report` take none, nor
-    /// do `interval`, `order` and `prove` where the first event is kept, nor `interval` and `order` where the second one is.
-    /// Where some execution exists before and after an `add`, its steps go by the nodes whose values or distances it changes,
-    /// unless it brings the source's first reading; without a new event it takes none. No call before answered `Memory`.
+    /// refused changes nothing. The steps of its searches are counted: `time`, `merge`, `problem` and `report` take
+    /// none, nor do `interval`, `order` and `prove` where the first event is kept, nor `interval` and `order` where the
+    /// second one is. Where some execution exists before and after an `add`, its steps go by the nodes whose values or
+    /// distances it changes, unless it brings the source's first reading; without a new event it takes none. No call
+    /// before answered `Memory`.
     ///
     /// `WriteFault` is answered only where the sink's count of faults rose, or stands at its last value: a front of the
     /// reply is then written, and the session is as if all of it were. `Memory` is answered where memory runs out, which it
-    /// may on `add`, `keep`, `merge` and `report` alone: nothing is written then, and nothing is promised of the session.
+    /// may on `add`, `keep`, `merge`, `report` and `blame` alone: nothing is written then, and nothing is promised of the
+    /// session.
     pub fn step<F: Files, O: Sink, L: Ledger>(
         &mut self,
         line: &[u8],
@@ -122,8 +124,8 @@ impl Session {
         replied
     }
 
-    /// Writes the reply to a line of more than 4,096 bytes, which is refused. `WriteFault` is answered only where the sink's count
-    /// of faults rose, or stands at its last value.
+    /// Writes the reply to a line of more than 4,096 bytes, which is refused. `WriteFault` is answered only where the
+    /// sink's count of faults rose, or stands at its last value.
     pub fn too_long<O: Sink>(&mut self, out: &mut O) -> Result<(), Stop>
         ensures writes { Writes (refusal_line refusals.NoCommand) (O.told out.old) (O.told out.new) result }
         ensures only { IfErr result (λ stop. stop ≡ stops.WriteFault) }

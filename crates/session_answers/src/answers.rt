@@ -24,8 +24,8 @@ use std::alloc::{AllocError, Global};
 use std::sync::ledger::Ledger;
 use traces::{Accepted, Event};
 
-/// The graph of all that was added, with its declaration and the ends of messages, and with the rows of the kept events and of the
-/// source.
+/// The graph of all that was added, with its declaration and the ends of messages, and with the rows of the kept events
+/// and of the source.
 #[derive(Drop)]
 pub struct Answers {
     /// The graph, with its declaration, the ends of messages and the rows.
@@ -122,8 +122,9 @@ fn keep_source_now<L: Ledger>(answers: &mut Answers, k: usize, steps: &mut Steps
     );
 }
 
-/// Brings the events into the graph that came last under the label at a place, so many, and tells whether some execution obeys all
-/// bounds and how the messages changed. It answers an error only where memory runs out, and then the graph is used no more.
+/// Brings the events into the graph that came last under the label at a place, so many, and tells whether some
+/// execution obeys all bounds and how the messages changed. It answers an error only where memory runs out, and then
+/// the graph is used no more.
 pub fn renew<L: Ledger>(
     answers: &mut Answers,
     accepted: &[Accepted],

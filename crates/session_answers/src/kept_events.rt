@@ -47,9 +47,9 @@ fn keep_new<L: Ledger>(
     Ok(Outcome::Kept(keep_node(solver, node, steps)))
 }
 
-/// Keeps the rows of the event of this name from now on, and answers what came of it: its slot, or the refusal where no event
-/// has the name, or where it is a ninth. An error is answered only where memory runs out; then the answers are used no more, but
-/// for the declaration.
+/// Keeps the rows of the event of this name from now on, and answers what came of it: its slot, or the refusal where no
+/// event has the name, or where it is a ninth. An error is answered only where memory runs out; then the answers are
+/// used no more, but for the declaration.
 pub fn keep_event<L: Ledger>(
     kept: &mut Vec<EventId>,
     answers: &mut Answers,

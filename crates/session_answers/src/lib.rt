@@ -1,9 +1,9 @@
-//! What a session keeps ready for questions: the graph of all that was added, with the ends of messages and the rows of the kept events
-//! and of the source.
+//! What a session keeps ready for questions: the graph of all that was added, with the ends of messages and the rows of
+//! the kept events and of the source.
 //!
-//! `renew` brings the events and messages of an addition into the graph, and gives the source its rows when its first reading
-//! comes. `keep_event` gives an event its rows. `ask_comparison`, `ask_proof` and `ask_time` answer questions about events by
-//! their names.
+//! `renew` brings the events and messages of an addition into the graph, and gives the source its rows when its first
+//! reading comes. `keep_event` gives an event its rows. `ask_comparison`, `ask_proof` and `ask_time` answer questions
+//! about events by their names.
 #![tactic(auto)]
 
 mod answers;

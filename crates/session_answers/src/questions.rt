@@ -72,8 +72,8 @@ pub fn ask_proof<O: Sink, L: Ledger>(
     }
 }
 
-/// Writes the time of an event by the source's clock, whose reading with kept rows has this stamp, in ns; or the refusal where there
-/// is no such event, or no source with a reading. `Failed` comes only where a write fails.
+/// Writes the time of an event by the source's clock, whose reading with kept rows has this stamp, in ns; or the
+/// refusal where there is no such event, or no source with a reading. `Failed` comes only where a write fails.
 pub fn ask_time<O: Sink>(
     names: &Roster,
     solver: &Solver,

@@ -68,8 +68,8 @@ fn keep_reading<L: Ledger>(
     }
 }
 
-/// Keeps the rows of a reading of the source's clock, and answers its stamp, in ns; None where there is no source, or its clock has no
-/// reading.
+/// Keeps the rows of a reading of the source's clock, and answers its stamp, in ns; None where there is no source, or
+/// its clock has no reading.
 pub(crate) fn keep_source<L: Ledger>(
     solver: &mut Solver,
     roster: &Roster,

@@ -73,8 +73,8 @@ fn is_message_next(solver: &Solver, turns: &[Turn], next: usize, dues: &[Due], l
     is_ready(solver, dues, left)
 }
 
-/// Events of the roster enter the graph, in the order of their turns, and messages come, from the last to the first, each as soon
-/// as both its ends have entered. There is room for all nodes.
+/// Events of the roster enter the graph, in the order of their turns, and messages come, from the last to the first,
+/// each as soon as both its ends have entered. There is room for all nodes.
 pub(crate) fn come<L: Ledger>(
     roster: &mut Roster,
     solver: &mut Solver,

@@ -23,9 +23,10 @@ use std::alloc::AllocError;
 use std::sync::ledger::Ledger;
 use traces::Event;
 
-/// Events of a label come, which change the messages so, by the numbers that the events have then: those that go are withdrawn, the
-/// events enter in the order of their stamps, and each message that comes joins once both its ends have entered. There is room for
-/// all nodes. An error comes only where memory runs out, and then roster and graph are used no more.
+/// Events of a label come, which change the messages so, by the numbers that the events have then: those that go are
+/// withdrawn, the events enter in the order of their stamps, and each message that comes joins once both its ends have
+/// entered. There is room for all nodes. An error comes only where memory runs out, and then roster and graph are used
+/// no more.
 pub(crate) fn change<L: Ledger>(
     roster: &mut Roster,
     solver: &mut Solver,

@@ -177,9 +177,9 @@ fn enter_new<L: Ledger>(
     Ok(next)
 }
 
-/// An event of the roster enters the graph, unless it has. There is room for its nodes. The answer is a stamp, in ns, that may
-/// be the nearest one above the next event, as the hint may be that of this one: a wrong one costs time alone. An error comes
-/// only where memory runs out, and then roster and graph are used no more.
+/// An event of the roster enters the graph, unless it has. There is room for its nodes. The answer is a stamp, in ns,
+/// that may be the nearest one above the next event, as the hint may be that of this one: a wrong one costs time alone.
+/// An error comes only where memory runs out, and then roster and graph are used no more.
 pub(crate) fn enter<L: Ledger>(
     roster: &mut Roster,
     solver: &mut Solver,

@@ -15,8 +15,9 @@ use atto::Nano;
 use roster::Roster;
 use solver::Solver;
 
-/// The nearest readings of one that is new: the stamps below and above it on its clock, in ns; and where there is none below, the
-/// last reading of a clock before, where there is none above, the first one of a clock after, with the place of the clock.
+/// The nearest readings of one that is new: the stamps below and above it on its clock, in ns; and where there is none
+/// below, the last reading of a clock before, where there is none above, the first one of a clock after, with the place
+/// of the clock.
 #[derive(Clone, Copy)]
 pub(crate) struct Nearest {
     pub below: Option<Nano>,
@@ -161,7 +162,8 @@ fn later(
     }
 }
 
-/// The nearest readings of one that its clock has shown, or none where it is a node. The hint, in ns, may be the stamp above it.
+/// The nearest readings of one that its clock has shown, or none where it is a node. The hint, in ns, may be the stamp
+/// above it.
 pub(crate) fn nearest_of(
     roster: &Roster,
     solver: &Solver,

@@ -47,8 +47,8 @@ pub(crate) fn push_message<L: Ledger>(
     Ok(solver.graph().arcs() - 1)
 }
 
-/// A message comes, whose ends have entered the graph. An error comes only where memory runs out, and then roster and graph are
-/// used no more.
+/// A message comes, whose ends have entered the graph. An error comes only where memory runs out, and then roster and
+/// graph are used no more.
 pub(crate) fn join<L: Ledger>(
     roster: &mut Roster,
     solver: &mut Solver,

@@ -24,8 +24,8 @@ use std::alloc::{AllocError, Global};
 use std::sync::ledger::Ledger;
 use traces::Event;
 
-// The matcher gets the ends of messages among events that have the numbers from `first` on, and answers how the messages change;
-// an error where memory runs out.
+// The matcher gets the ends of messages among events that have the numbers from `first` on, and answers how the
+// messages change; an error where memory runs out.
 fn rematch(
     alloc: Global,
     matcher: &mut Matcher,
@@ -43,7 +43,8 @@ fn rematch(
     matcher.add(&items)
 }
 
-/// The events of a session by number, with its declaration, which of them are messages, and their graph with what is known of it.
+/// The events of a session by number, with its declaration, which of them are messages, and their graph with what is
+/// known of it.
 #[derive(Drop)]
 pub struct KeptGraph {
     /// The declaration, the events by number, and the readings, each with its node.
@@ -76,13 +77,14 @@ impl KeptGraph {
         })
     }
 
-    /// Adds events of a label, behind those that it has, and answers how many messages come by them, and how many go. Arcs keep their
-    /// numbers. An error comes only where memory runs out, and then the graph is used no more.
+    /// Adds events of a label, behind those that it has, and answers how many messages come by them, and how many go.
+    /// Arcs keep their numbers. An error comes only where memory runs out, and then the graph is used no more.
     ///
-    /// Where an execution exists before and after, the steps are at most those of the withdrawing part, which is none where no
-    /// message goes, and for each arc that comes what it may take between the state before it and the one with it: two, two for
-    /// each kept row, and for each node that it changes, in the earliest execution or in a row, two and the arcs at it. At most
-    /// eight arcs come for each event. Without an event there is no step where an execution existed before.
+    /// Where an execution exists before and after, the steps are at most those of the withdrawing part, which is none
+    /// where no message goes, and for each arc that comes what it may take between the state before it and the one with
+    /// it: two, two for each kept row, and for each node that it changes, in the earliest execution or in a row, two
+    /// and the arcs at it. At most eight arcs come for each event. Without an event there is no step where an execution
+    /// existed before.
     pub fn add<L: Ledger>(
         &mut self,
         label: u32,

@@ -1,5 +1,5 @@
-// What a new reading is linked to: the nearest ones on its clock, and where there is none, those on the clocks of its host before and
-// after it.
+// What a new reading is linked to: the nearest ones on its clock, and where there is none, those on the clocks of its
+// host before and after it.
 ghost use Rattle.std.specs.Prelude.{◌≡◌, ◌<◌, ◌≤◌, ◌+◌, ℕ, Bool, List, ◌++◌, Some, length, slice_get, IfSome, OnOk};
 ghost use Rattle.problem_model.specs.declared.items.Node.TheVariants as nodes;
 ghost use Rattle.problem_model.specs.declared.items.Bound.{Bound};

@@ -7,11 +7,13 @@ use Rattle.roster.specs.Roster.{listed}
 use Rattle.solver.specs.Solution.{IsSolutionBy}
 use Rattle.traces.specs.Held.{missed_in, seen_in}
 use Rattle.traces.specs.Messages.{problem_of_seen}
+use Rattle.traces.proofs.Seen.{problem_lawful}
 use Rattle.replies.specs.Commands.{Compare, Time, Merge, Prove, Problem}
 use Rattle.replies.specs.Reply.{IsAnswerTo}
 use Rattle.session_answers.specs.Ready.{answers_problem, declared}
 use Rattle.session_answers.proofs.AskedRows.{answers_left}
 use Rattle.session_answers.proofs.Engines.{spare_free, told}
+use Rattle.session_graph.proofs.Held.{labels_many}
 use Rattle.session.proofs.Replying.{source_keeps}
 use Rattle.session.proofs.answers.answer.Goals as goal
 
@@ -99,3 +101,17 @@ returns-in-Problem-clause-writes g c =
     let graph = c.requires.ready.1.graph in
     rw c.in-Problem.is (such_of (IsAnswerTo Problem (declared a) seen (missed_in c.args.accepted.now)) refl
     (c.written-in-Problem.ensures.writes _ _ _ (c.write_roster.ensures seen graph.holds (told seen a.graph.roster a.graph.solver graph))))
+
+pub write_blame-requires : goal.write_blame-requires
+write_blame-requires g c =
+    let a = c.args.answers.now in
+    let graph = c.requires.ready.1.graph in
+    record { told = (seen_in c.args.accepted.now, graph.holds, told (seen_in c.args.accepted.now) a.graph.roster a.graph.solver graph) }
+
+pub returns-in-Blame-clause-writes : goal.returns-in-Blame-clause-writes
+returns-in-Blame-clause-writes g c =
+    let r = c.args.answers.now.graph.roster in
+    let seen = seen_in c.args.accepted.now in
+    let are = c.requires.ready.1 in
+    let lawful = problem_lawful r.declaration seen are.lawful.declared (labels_many r are.lawful seen are.graph.holds) c.requires.few are.graph.stamps in
+    rw c.in-Blame.is (c.write_blame.ensures.writes seen are.graph.holds (told seen r c.args.answers.now.graph.solver are.graph) lawful)

@@ -1,0 +1,11 @@
+use Rattle.std.proofs.Common.{subst}
+use Rattle.problem_model.specs.Problem.{ProblemLists}
+use Rattle.ports.specs.Content.{WritesSuch}
+use Rattle.queries.specs.declared.stop.Stop.TheVariants as stops
+use Rattle.widen.specs.Blame.{IsBlameText}
+use Rattle.session.proofs.blames.write_blame.Goals as goal
+
+pub returns-clause-writes : goal.returns-clause-writes
+returns-clause-writes g c = λ seen holds tells lawful.
+    subst (λ (p : ProblemLists). WritesSuch (IsBlameText p) stops.WriteFault (g.O.Sink.told c.args.out.now) (g.O.Sink.told c.write_text.new.out) c.write_text.result)
+    (c.in_ok-p.ensures seen holds tells lawful) c.write_text.ensures.writes
