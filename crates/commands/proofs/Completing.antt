@@ -5,7 +5,7 @@ use Rattle.ports.specs.Content.{Rose, Appends, SinkTold, SourceTold}
 use Rattle.ports.specs.Files.{Content, FilesTold, HasBytes, IsAbsent, Keeps}
 use Rattle.ports.specs.Lines.{most_taken, whole_lines}
 use Rattle.problem_model.specs.Problem.{ProblemLists, IsProblem}
-use Rattle.problem.specs.Line.{HasEvent, IsUnknown}
+use Rattle.problem.specs.Line.{HasEvent}
 use Rattle.cert_check.specs.declared.what.What.{What}
 use Rattle.widen.specs.Named.{SaysWhat}
 use Rattle.decl.specs.Declaration.{Declaration}
@@ -17,7 +17,8 @@ use Rattle.commands.specs.Asked.{Asked, help_text, version_text}
 use Rattle.commands.specs.Asked.Asked.{Obey, Solve, Ends, Verify, Session, Trial, Widen, Judge, Blame, Mergecap, Help, Version, Nothing}
 use Rattle.commands.specs.Runs.{Answers}
 use Rattle.commands.specs.Complete.{Holds, HoldsProblem, IsExecutionText, IsCertText, IsWideningText, IsLawfulInput, IsFaultless, IsAnswered}
-use Rattle.problem_commands.specs.Intervals.{IntervalAnswered}
+use Rattle.problem_commands.specs.ForProblem.{ForProblem}
+use Rattle.problem_commands.specs.Intervals.{TellsNamed, IntervalAnswered}
 use Rattle.merge_script.specs.Turns.{reads}
 use Rattle.merge_script.specs.Gathered as merging
 use Rattle.merge_script.specs.declared.unmerged.Unmerged.TheVariants as whys
@@ -26,13 +27,12 @@ use Rattle.commands.specs.MergedCapture.{MergedOver, MergedAt}
 use Rattle.problem_commands.specs.Obey.{Obeyed}
 use Rattle.problem_commands.specs.Printing.{Prints, Closes}
 use Rattle.commands.specs.Sessions.{IsFaultAt, TellsSession, Conducted}
-use Rattle.problem_commands.specs.Solve.{Solved}
+use Rattle.problem_commands.specs.Solve.{TellsSolution, Solved}
 use Rattle.problem_commands.specs.Texts.{SpellsProblem, IsMissed, IsBadProblem, BothHave, MissesOne, RefusesProblem, RefusesExecution, RefusesCert}
 use Rattle.commands.specs.Trials.{IsNumber, Tried, TriedBy}
 use Rattle.problem_commands.specs.Verify.{Verified}
-use Rattle.problem_commands.specs.Widening.{RefusesWidening, WideningFound, WideningJudged}
-use Rattle.problem_commands.specs.WhatWords.{SaysNothing}
-use Rattle.problem_commands.specs.Blame.{Blamed}
+use Rattle.problem_commands.specs.Widening.{RefusesWidening, TellsLeastNamed, WideningFound, WideningJudged}
+use Rattle.problem_commands.specs.Blame.{TellsBlame, Blamed}
 use Rattle.problem_commands.specs.declared.refusal.Refusal.{Refusal}
 use Rattle.problem_commands.specs.declared.status.Status.{Status}
 use Rattle.problem_commands.specs.declared.status.Status.TheVariants as statuses
@@ -51,11 +51,14 @@ module _ (P : List ℕ → Type 0) where
   bytes_held None held = absurd held
   bytes_held (Some bytes) held = (bytes, refl, held)
 
-  pub no_bytes : (Q : List ℕ → Type 0) (files : Content) (path : List ℕ) → ((bytes : List ℕ) → P bytes → Q bytes → ⊥) → Holds files path P → HasBytes files path Q → ⊥
-  no_bytes Q None path clash held has = absurd held
-  no_bytes Q (Some all) path clash held has =
+  pub both_said : (Q : List ℕ → Type 0) (files : Content) (path : List ℕ) → Holds files path P → HasBytes files path Q → (bytes : List ℕ) × P bytes × Q bytes
+  both_said Q None path held has = absurd held
+  both_said Q (Some all) path held has =
       let there = bytes_held (all path) held in
-      clash there.0 there.2 (subst Q (some_one has.0 there.0 (sym has.1 ∙ there.1)) has.2)
+      (there.0, there.2, subst Q (some_one has.0 there.0 (sym has.1 ∙ there.1)) has.2)
+
+  pub no_bytes : (Q : List ℕ → Type 0) (files : Content) (path : List ℕ) → ((bytes : List ℕ) → P bytes → Q bytes → ⊥) → Holds files path P → HasBytes files path Q → ⊥
+  no_bytes Q files path clash held has = let both = both_said Q files path held has in clash both.0 both.1 both.2
 
   not_absent : (files : Content) (path : List ℕ) → Holds files path P → IsAbsent files path → ⊥
   not_absent None path held absent = absurd held
@@ -112,8 +115,28 @@ printed Goes old new result on none (inl (text, goes, appended)) = on result tex
 printed Goes old new result on none (inr (inl (is, (status, text, goes, (rose, front))))) = absurd (none rose)
 printed Goes old new result on none (inr (inr (is, same))) = inr (inr (inl is))
 
+-- ---- what is told of a lawful problem has the status of an answer
+ends_told : (p : ProblemLists) (first second : List ℕ) → ((from : ℕ) × HasEvent p from first) × ((to : ℕ) × HasEvent p to second) → (status : Status) (text : List ℕ) → TellsNamed p first second status text → IsAnswered status
+ends_told p first second known status text (inl (from, to, named, named', tells)) = inl tells.0
+ends_told p first second known status text (inr (inl unknown, only)) = absurd (unknown known.0.0 known.0.1)
+ends_told p first second known status text (inr (inr unknown, only)) = absurd (unknown known.1.0 known.1.1)
+
+least_told : (p : ProblemLists) (ws : List (List ℕ)) → ((what : What) × SaysWhat p ws what) → (status : Status) (text : List ℕ) → TellsLeastNamed p ws status text → IsAnswered status
+least_told p ws says status text (inl (what, says', tells)) = inl tells.0
+least_told p ws says status text (inr (nothing, only)) = absurd (nothing says.0 says.1)
+
 -- ---- the commands
 module _ (law : HaveOneAnswer) (old new : FilesTold) (none : Rose old.faults new.faults → ⊥) where
+  -- those over one problem
+  one_goes : (Tells : ProblemLists → Status → List ℕ → Type 0) (IsAsked : ProblemLists → Type 0) (problem : List ℕ) → ((p : ProblemLists) → IsAsked p → (status : Status) (text : List ℕ) → Tells p status text → IsAnswered status)
+      → HoldsProblem old.content problem IsAsked → (status : Status) (text : List ℕ) → ForProblem Tells problem old new status text → IsAnswered status
+  one_goes Tells IsAsked problem answered (p, held, asked) status text (inl (q, has, tells)) =
+      let both = both_said (SpellsProblem p) (SpellsProblem q) old.content problem held has in
+      answered p asked status text (subst (λ (r : ProblemLists). Tells r status text) (sym (problems_one law p q both.0 both.1 both.2)) tells)
+  one_goes Tells IsAsked problem answered (p, held, asked) status text (inr (inl (is, bad))) = absurd (not_bad law p problem text old.content held bad)
+  one_goes Tells IsAsked problem answered (p, held, asked) status text (inr (inr (is, missed, line))) = absurd (not_missed (SpellsProblem p) problem old new held none missed)
+
+  -- those over a problem and another file
   obey_goes : (problem exec : List ℕ) → HoldsProblem old.content problem (λ p. Holds old.content exec (IsExecutionText p)) → (status : Status) (line : List ℕ) → Obeyed problem exec old new status line → IsAnswered status
   obey_goes problem exec lawful statuses.Done line goes = inl refl
   obey_goes problem exec lawful statuses.No line goes = inr (inl refl)
@@ -130,43 +153,6 @@ module _ (law : HaveOneAnswer) (old new : FilesTold) (none : Rose old.faults new
   obey_goes problem exec lawful statuses.UnknownName line goes = absurd goes
   obey_goes problem exec lawful statuses.NoMerge line goes = absurd goes
 
-  solve_goes : (problem : List ℕ) → HoldsProblem old.content problem (λ p. Unit {0}) → (status : Status) (text : List ℕ) → Solved problem old new status text → IsAnswered status
-  solve_goes problem lawful statuses.Done text goes = inl refl
-  solve_goes problem lawful statuses.No text goes = absurd goes
-  solve_goes problem lawful statuses.Usage text goes = absurd goes
-  solve_goes problem lawful statuses.BadDecl text goes = absurd goes
-  solve_goes problem (p, held, also) statuses.BadProblem text goes = absurd (not_bad law p problem text old.content held goes)
-  solve_goes problem lawful statuses.BadExec text goes = absurd goes
-  solve_goes problem lawful statuses.BadCert text goes = absurd goes
-  solve_goes problem (p, held, also) statuses.ReadFault text goes = absurd (not_missed (SpellsProblem p) problem old new held none goes.0)
-  solve_goes problem lawful statuses.WriteFault text goes = absurd goes
-  solve_goes problem lawful statuses.Memory text goes = absurd goes
-  solve_goes problem lawful statuses.ScriptLimit text goes = absurd goes
-  solve_goes problem lawful statuses.UnknownName text goes = absurd goes
-  solve_goes problem lawful statuses.NoMerge text goes = absurd goes
-
-  -- both events are known
-  known : (p : ProblemLists) (first second text : List ℕ) (q : ProblemLists) → ((from : ℕ) × HasEvent p from first) → ((to : ℕ) × HasEvent p to second) → p ≡ q → IsUnknown q first ⊎ IsUnknown q second → ⊥
-  known p first second text q from to same (inl unknown) = unknown from.0 (subst (λ (r : ProblemLists). HasEvent r from.0 first) same from.1)
-  known p first second text q from to same (inr unknown) = unknown to.0 (subst (λ (r : ProblemLists). HasEvent r to.0 second) same to.1)
-
-  ends_goes : (problem first second : List ℕ) → HoldsProblem old.content problem (λ p. ((from : ℕ) × HasEvent p from first) × ((to : ℕ) × HasEvent p to second))
-      → (status : Status) (text : List ℕ) → IntervalAnswered problem first second old new status text → IsAnswered status
-  ends_goes problem first second lawful statuses.Done text goes = inl refl
-  ends_goes problem first second lawful statuses.No text goes = absurd goes
-  ends_goes problem first second lawful statuses.Usage text goes = absurd goes
-  ends_goes problem first second lawful statuses.BadDecl text goes = absurd goes
-  ends_goes problem first second (p, held, (from, to)) statuses.BadProblem text goes = absurd (not_bad law p problem text old.content held goes)
-  ends_goes problem first second lawful statuses.BadExec text goes = absurd goes
-  ends_goes problem first second lawful statuses.BadCert text goes = absurd goes
-  ends_goes problem first second (p, held, (from, to)) statuses.ReadFault text goes = absurd (not_missed (SpellsProblem p) problem old new held none goes.0)
-  ends_goes problem first second lawful statuses.WriteFault text goes = absurd goes
-  ends_goes problem first second lawful statuses.Memory text goes = absurd goes
-  ends_goes problem first second lawful statuses.ScriptLimit text goes = absurd goes
-  ends_goes problem first second (p, held, (from, to)) statuses.UnknownName text (q, has, unknown, is) = absurd (
-      no_bytes (SpellsProblem p) (SpellsProblem q) old.content problem (λ bytes spelled other. known p first second text q from to (problems_one law p q bytes spelled other) unknown) held has)
-  ends_goes problem first second lawful statuses.NoMerge text goes = absurd goes
-
   verify_goes : (problem cert : List ℕ) → HoldsProblem old.content problem (λ p. Holds old.content cert (IsCertText p)) → (status : Status) (line : List ℕ) → Verified problem cert old new status line → IsAnswered status
   verify_goes problem cert lawful statuses.Done line goes = inl refl
   verify_goes problem cert lawful statuses.No line goes = inr (inl refl)
@@ -182,41 +168,6 @@ module _ (law : HaveOneAnswer) (old new : FilesTold) (none : Rose old.faults new
   verify_goes problem cert lawful statuses.ScriptLimit line goes = absurd goes
   verify_goes problem cert lawful statuses.UnknownName line goes = absurd goes
   verify_goes problem cert lawful statuses.NoMerge line goes = absurd goes
-
-  -- the words name something of the problem
-  named : (p : ProblemLists) (ws : List (List ℕ)) (q : ProblemLists) → ((what : What) × SaysWhat p ws what) → p ≡ q → SaysNothing q ws → ⊥
-  named p ws q says same none = none says.0 (subst (λ (r : ProblemLists). SaysWhat r ws says.0) same says.1)
-
-  widen_goes : (problem : List ℕ) (ws : List (List ℕ)) → HoldsProblem old.content problem (λ p. (what : What) × SaysWhat p ws what) → (status : Status) (text : List ℕ) → WideningFound problem ws old new status text → IsAnswered status
-  widen_goes problem ws lawful statuses.Done text goes = inl refl
-  widen_goes problem ws lawful statuses.No text goes = absurd goes
-  widen_goes problem ws lawful statuses.Usage text goes = absurd goes
-  widen_goes problem ws lawful statuses.BadDecl text goes = absurd goes
-  widen_goes problem ws (p, held, also) statuses.BadProblem text goes = absurd (not_bad law p problem text old.content held goes)
-  widen_goes problem ws lawful statuses.BadExec text goes = absurd goes
-  widen_goes problem ws lawful statuses.BadCert text goes = absurd goes
-  widen_goes problem ws (p, held, also) statuses.ReadFault text goes = absurd (not_missed (SpellsProblem p) problem old new held none goes.0)
-  widen_goes problem ws lawful statuses.WriteFault text goes = absurd goes
-  widen_goes problem ws lawful statuses.Memory text goes = absurd goes
-  widen_goes problem ws lawful statuses.ScriptLimit text goes = absurd goes
-  widen_goes problem ws (p, held, says) statuses.UnknownName text (q, has, nothing, is) = absurd (
-      no_bytes (SpellsProblem p) (SpellsProblem q) old.content problem (λ bytes spelled other. named p ws q says (problems_one law p q bytes spelled other) nothing) held has)
-  widen_goes problem ws lawful statuses.NoMerge text goes = absurd goes
-
-  blame_goes : (problem : List ℕ) → HoldsProblem old.content problem (λ p. Unit {0}) → (status : Status) (text : List ℕ) → Blamed problem old new status text → IsAnswered status
-  blame_goes problem lawful statuses.Done text goes = inl refl
-  blame_goes problem lawful statuses.No text goes = absurd goes
-  blame_goes problem lawful statuses.Usage text goes = absurd goes
-  blame_goes problem lawful statuses.BadDecl text goes = absurd goes
-  blame_goes problem (p, held, also) statuses.BadProblem text goes = absurd (not_bad law p problem text old.content held goes)
-  blame_goes problem lawful statuses.BadExec text goes = absurd goes
-  blame_goes problem lawful statuses.BadCert text goes = absurd goes
-  blame_goes problem (p, held, also) statuses.ReadFault text goes = absurd (not_missed (SpellsProblem p) problem old new held none goes.0)
-  blame_goes problem lawful statuses.WriteFault text goes = absurd goes
-  blame_goes problem lawful statuses.Memory text goes = absurd goes
-  blame_goes problem lawful statuses.ScriptLimit text goes = absurd goes
-  blame_goes problem lawful statuses.UnknownName text goes = absurd goes
-  blame_goes problem lawful statuses.NoMerge text goes = absurd goes
 
   judge_goes : (problem widening : List ℕ) → HoldsProblem old.content problem (λ p. Holds old.content widening (IsWideningText p)) → (status : Status) (line : List ℕ) → WideningJudged problem widening old new status line → IsAnswered status
   judge_goes problem widening lawful statuses.Done line goes = inl refl
@@ -240,12 +191,13 @@ module _ (law : HaveOneAnswer) (old new : Devices) (none : IsFaultless old new) 
   obey_answered problem exec result lawful = printed (Obeyed problem exec old.files new.files) old.out new.out result (obey_goes law old.files new.files none.files problem exec lawful) none.out
 
   solve_answered : (problem : List ℕ) (result : Status) → HoldsProblem old.files.content problem (λ p. Unit {0}) → Prints (Solved problem old.files new.files) old.out new.out result → IsAnswered result
-  solve_answered problem result lawful = printed (Solved problem old.files new.files) old.out new.out result (solve_goes law old.files new.files none.files problem lawful) none.out
+  solve_answered problem result lawful =
+      printed (Solved problem old.files new.files) old.out new.out result (one_goes law old.files new.files none.files TellsSolution (λ p. Unit {0}) problem (λ p asked status text tells. inl tells.0) lawful) none.out
 
   ends_answered : (problem first second : List ℕ) (result : Status) → HoldsProblem old.files.content problem (λ p. ((from : ℕ) × HasEvent p from first) × ((to : ℕ) × HasEvent p to second))
       → Prints (IntervalAnswered problem first second old.files new.files) old.out new.out result → IsAnswered result
   ends_answered problem first second result lawful =
-      printed (IntervalAnswered problem first second old.files new.files) old.out new.out result (ends_goes law old.files new.files none.files problem first second lawful) none.out
+      printed (IntervalAnswered problem first second old.files new.files) old.out new.out result (one_goes law old.files new.files none.files (λ p. TellsNamed p first second) (λ p. ((from : ℕ) × HasEvent p from first) × ((to : ℕ) × HasEvent p to second)) problem (λ p. ends_told p first second) lawful) none.out
 
   verify_answered : (problem cert : List ℕ) (result : Status) → HoldsProblem old.files.content problem (λ p. Holds old.files.content cert (IsCertText p))
       → Prints (Verified problem cert old.files new.files) old.out new.out result → IsAnswered result
@@ -253,10 +205,12 @@ module _ (law : HaveOneAnswer) (old new : Devices) (none : IsFaultless old new) 
 
   widen_answered : (problem : List ℕ) (ws : List (List ℕ)) (result : Status) → HoldsProblem old.files.content problem (λ p. (what : What) × SaysWhat p ws what)
       → Prints (WideningFound problem ws old.files new.files) old.out new.out result → IsAnswered result
-  widen_answered problem ws result lawful = printed (WideningFound problem ws old.files new.files) old.out new.out result (widen_goes law old.files new.files none.files problem ws lawful) none.out
+  widen_answered problem ws result lawful =
+      printed (WideningFound problem ws old.files new.files) old.out new.out result (one_goes law old.files new.files none.files (λ p. TellsLeastNamed p ws) (λ p. (what : What) × SaysWhat p ws what) problem (λ p. least_told p ws) lawful) none.out
 
   blame_answered : (problem : List ℕ) (result : Status) → HoldsProblem old.files.content problem (λ p. Unit {0}) → Prints (Blamed problem old.files new.files) old.out new.out result → IsAnswered result
-  blame_answered problem result lawful = printed (Blamed problem old.files new.files) old.out new.out result (blame_goes law old.files new.files none.files problem lawful) none.out
+  blame_answered problem result lawful =
+      printed (Blamed problem old.files new.files) old.out new.out result (one_goes law old.files new.files none.files TellsBlame (λ p. Unit {0}) problem (λ p asked status text tells. inl tells.0) lawful) none.out
 
   judge_answered : (problem widening : List ℕ) (result : Status) → HoldsProblem old.files.content problem (λ p. Holds old.files.content widening (IsWideningText p))
       → Prints (WideningJudged problem widening old.files new.files) old.out new.out result → IsAnswered result

@@ -29,7 +29,8 @@ widen_all problem kind =
     if bytes_eq kind (codes "delays") then Widen problem (codes "delays" ∷ [])
     else if bytes_eq kind (codes "least") then Widen problem (codes "least" ∷ [])
     else if bytes_eq kind (codes "stamps") then Widen problem (codes "stamps" ∷ [])
-    else if bytes_eq kind (codes "rates") then Widen problem (codes "rates" ∷ []) else Nothing
+    else if bytes_eq kind (codes "rates") then Widen problem (codes "rates" ∷ [])
+    else if bytes_eq kind (codes "gaps") then Widen problem (codes "gaps" ∷ []) else Nothing
 
 abbrev pub widen_clock : List ℕ → List ℕ → List ℕ → Asked
 widen_clock problem kind clock =
@@ -77,6 +78,7 @@ seen_request (request.Session decl) = Session decl.now
 seen_request (request.Trial number) = Trial number.now
 seen_request (request.WidenLinks problem kind) = Widen problem.now (links_kind kind ∷ [])
 seen_request (request.WidenClocks problem kind) = Widen problem.now (clocks_kind kind ∷ [])
+seen_request (request.WidenGaps problem) = Widen problem.now (codes "gaps" ∷ [])
 seen_request (request.WidenLink problem kind from to) = Widen problem.now (links_kind kind ∷ from.now ∷ to.now ∷ [])
 seen_request (request.WidenClock problem kind clock) = Widen problem.now (clocks_kind kind ∷ clock.now ∷ [])
 seen_request (request.Judge problem widening) = Judge problem.now widening.now
@@ -116,9 +118,9 @@ help_text =
     ++ codes "  verify PROBLEM CERT     whether a certificate shows what it should; if not, the first reason why not\n"
     ++ codes "  trial N                 answers a session over logs that the program makes, always the same ones for the same N\n"
     ++ codes "  widen PROBLEM WHAT..    by how much WHAT must widen at least so that nothing contradicts any more: all greatest delays, or\n"
-    ++ codes "                          one of delays, least, stamps, rates, stamps CLOCK, rates CLOCK, delays FROM TO, least FROM TO\n"
+    ++ codes "                          one of delays, least, stamps, rates, gaps, stamps CLOCK, rates CLOCK, delays FROM TO, least FROM TO\n"
     ++ codes "  judge PROBLEM WIDENING  whether what widen says is so; if not, the first reason why not\n"
-    ++ codes "  blame PROBLEM           by how much each kind of bound, and each clock's, must widen so that it alone heals a contradiction\n"
+    ++ codes "  blame PROBLEM           by how much bounds of each kind, clock and link must widen so that these alone heal a contradiction\n"
     ++ codes "  mergecap DECL < SCRIPT  the packets of all captures that SCRIPT adds, as one capture in the order of their events' times\n"
     ++ codes "\n"
     ++ codes "DECL, PROBLEM, EXEC, CERT and WIDENING are paths of files, relative to where you stand; N is a number below 2^32. What is\n"
@@ -128,4 +130,4 @@ help_text =
 
 -- the number of the version, by the changelog
 abbrev pub version_text : List ℕ
-version_text = codes "tracesync 25\n"
+version_text = codes "tracesync 26\n"

@@ -6,7 +6,7 @@ const USAGE: &[u8] =
     b"usage: tracesync obey PROBLEM EXEC | solve PROBLEM | ends PROBLEM P Q | verify PROBLEM CERT | session DECL | trial N | widen PROBLEM WHAT.. | judge PROBLEM WIDENING | blame PROBLEM | mergecap DECL | --help | --version\n";
 
 // The number of the newest entry of CHANGELOG.md.
-const VERSION: &[u8] = b"tracesync 25\n";
+const VERSION: &[u8] = b"tracesync 26\n";
 
 // tracesync prints these lines where no program is built.
 const HELP: &[u8] = br"usage: tracesync COMMAND WORD..
@@ -18,9 +18,9 @@ const HELP: &[u8] = br"usage: tracesync COMMAND WORD..
   verify PROBLEM CERT     whether a certificate shows what it should; if not, the first reason why not
   trial N                 answers a session over logs that the program makes, always the same ones for the same N
   widen PROBLEM WHAT..    by how much WHAT must widen at least so that nothing contradicts any more: all greatest delays, or
-                          one of delays, least, stamps, rates, stamps CLOCK, rates CLOCK, delays FROM TO, least FROM TO
+                          one of delays, least, stamps, rates, gaps, stamps CLOCK, rates CLOCK, delays FROM TO, least FROM TO
   judge PROBLEM WIDENING  whether what widen says is so; if not, the first reason why not
-  blame PROBLEM           by how much each kind of bound, and each clock's, must widen so that it alone heals a contradiction
+  blame PROBLEM           by how much bounds of each kind, clock and link must widen so that these alone heal a contradiction
   mergecap DECL < SCRIPT  the packets of all captures that SCRIPT adds, as one capture in the order of their events' times
 
 DECL, PROBLEM, EXEC, CERT and WIDENING are paths of files, relative to where you stand; N is a number below 2^32. What is

@@ -76,6 +76,9 @@ fn run_counted<F: Files, I: Source, O: Sink, N: Sink, L: Ledger>(
             let what = WhatWords::Clocks(kind);
             widen(alloc, files, problem, &what, out, &mut steps)
         }
+        Request::WidenGaps { problem } => {
+            widen(alloc, files, problem, &WhatWords::Gaps, out, &mut steps)
+        }
         Request::WidenLink {
             problem,
             kind,
@@ -116,10 +119,11 @@ fn run_counted<F: Files, I: Source, O: Sink, N: Sink, L: Ledger>(
 /// at its end, and its replies to the last questions for intervals; `widen PROBLEM WHAT..` prints the least widening of
 /// what the words name of the problem, of all greatest delays without any, with what shows it from both sides, or that
 /// there is none; `judge PROBLEM WIDENING` says whether such a text shows what it should, or the first reason why not;
-/// `blame PROBLEM` prints by how much all delays, stamps or rates, or those of one clock, must be widened at least so
-/// that this alone heals a contradiction; `mergecap DECL` adds what the lines of the input say, each an `add`, in a
-/// session over the declaration, and prints the packets of all captures as one, in the order of their events' times;
-/// `--help` prints the commands, each with what it is for, `--version` the number of the version.
+/// `blame PROBLEM` prints by how much all delays, stamps, rates or gaps, or those of one clock or of the messages from
+/// one clock to another, must be widened at least so that this alone heals a contradiction; `mergecap DECL` adds what
+/// the lines of the input say, each an `add`, in a session over the declaration, and prints the packets of all captures
+/// as one, in the order of their events' times; `--help` prints the commands, each with what it is for, `--version` the
+/// number of the version.
 ///
 /// `Usage` comes where the words are of no form, `BadDecl`, `BadProblem`, `BadExec` and `BadCert` where a text is
 /// refused, `UnknownName` where the problem has no event or no clock of a name, `ReadFault` where a named file is not

@@ -46,6 +46,10 @@ pub enum Request<'a> {
         problem: &'a str,
         kind: KindOfClocks,
     },
+    /// `widen PROBLEM gaps`.
+    WidenGaps {
+        problem: &'a str,
+    },
     /// `widen PROBLEM KIND FROM TO`.
     WidenLink {
         problem: &'a str,
@@ -112,6 +116,7 @@ fn widen_all<'a>(problem: &'a str, kind: &str) -> Request<'a>
             problem,
             kind: KindOfClocks::Rates,
         },
+        "gaps" => Request::WidenGaps { problem },
         _ => Request::Nothing,
     }
 }

@@ -123,17 +123,19 @@ fn merge_lines<F: Files, I: Source, N: Sink, L: Ledger>(
 /// labels, then of their numbers there. Each line is an `add`; a line without a line feed at the end of the script is a line
 /// too. Logs take part in the problem, but have no packets.
 ///
-/// Where there is a merge, it tells `notes` of each capture, in the order of the labels, what no packet of the merge shows: a
-/// line `LABEL pending B` where B bytes stand behind its last whole record or block, and a line `LABEL passed simple S obsolete
-/// O other X` where so many packets of pcapng (draft-ietf-opsawg-pcapng) were passed over. Elsewhere it tells nothing. Where a
-/// write of them fails, a front of these lines is told, and the merge is answered all the same.
+/// Where there is a merge, it tells `notes` of each capture, in the order of the labels, what no packet of the merge
+/// shows: a line `LABEL pending B` where B bytes stand behind its last whole record or block, and a line `LABEL passed
+/// simple S obsolete O other X` where so many packets of pcapng (draft-ietf-opsawg-pcapng) were passed over. Elsewhere
+/// it tells nothing. Where a write of them fails, a front of these lines is told, and the merge is answered all the
+/// same.
 ///
-/// `Refused` comes at the first line that is refused, or has over 4,096 bytes, with its reply; `Size` at the first line behind
-/// which the packets have more than 2^30 bytes; `ReadFault` where the script could not be read on, and `Limit` where it has more
-/// than 2^30 bytes, if the lines that are whole before that are accepted. Where all lines are accepted, `Inconsistent` comes
-/// exactly where no execution exists, then `Links` exactly where two packets have different link types, then `Range` exactly
-/// where a time has no record: it is 2^32 s or more, or the one at which a record would begin as a file header does (see
-/// `mergecap::ArrangeError::Range`). `Memory` comes where memory runs out.
+/// `Refused` comes at the first line that is refused, or has over 4,096 bytes, with its reply; `Size` at the first line
+/// behind which the packets have more than 2^30 bytes; `ReadFault` where the script could not be read on, and `Limit`
+/// where it has more than 2^30 bytes, if the lines that are whole before that are accepted. Where all lines are
+/// accepted, `Inconsistent` comes exactly where no execution exists, then `Links` exactly where two packets have
+/// different link types, then `Range` exactly where a time has no record: it is 2^32 s or more, or the one at which a
+/// record would begin as a file header does (see `mergecap::ArrangeError::Range`). `Memory` comes where memory runs
+/// out.
 pub fn merge_script<F: Files, I: Source, N: Sink, L: Ledger>(
     alloc: Global,
     decl: Decl,
