@@ -1,0 +1,2 @@
+pub mod FilesOf
+pub mod LinesWith
