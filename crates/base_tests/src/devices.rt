@@ -1,8 +1,10 @@
+use crate::fixtures::text_of;
 use ports::{
-    DiskFiles, Failed, FileFault, Files, MemFiles, MemSink, MemSource, Sink, Source, StdSink,
-    StdSource, Words, read_file, write_whole,
+    DiskFiles, Failed, FileFault, Files, MemSink, MemSource, Sink, Source, StdSink, StdSource,
+    Words, read_file, write_whole,
 };
-use std::alloc::{AllocError, Global};
+use shared_fixtures::files_of;
+use std::alloc::Global;
 use std::fs::File;
 use std::io::Write;
 use std::test::Fail;
@@ -40,13 +42,8 @@ fn fails_by<F: Files>(alloc: Global, files: &mut F, path: &str, want: FileFault)
     }
 }
 
-fn put_files(alloc: Global, fails: &[u32]) -> Result<MemFiles, AllocError> {
-    let mut files = MemFiles::new(alloc, fails)?;
-    files.put("a", b"first")?;
-    files.put("b", b"")?;
-    files.put("a", b"second")?;
-    Ok(files)
-}
+// Two files, of which one was put anew.
+const FILES: [(&str, &str); 3] = [("a", "first"), ("b", ""), ("a", "second")];
 
 // Whether there is memory for a source, for a sink, and for words.
 fn source_is_made(alloc: Global) -> bool {
@@ -73,7 +70,7 @@ fn memory_is_taken(rt: HostRuntime) {
 #[test]
 fn files_are_read(rt: HostRuntime) -> Result<(), Fail> {
     let alloc = rt.alloc();
-    let mut files = put_files(alloc, &[])?;
+    let mut files = files_of(alloc, &FILES, &[])?;
     for (path, front, more) in [
         ("a", "second", false),
         ("a", "secon", true),
@@ -118,7 +115,7 @@ fn a_sink_fails_in_mid_stream(rt: HostRuntime) -> Result<(), Fail> {
 #[test]
 fn files_fail_in_mid_stream(rt: HostRuntime) -> Result<(), Fail> {
     let alloc = rt.alloc();
-    let mut files = put_files(alloc, &[2])?;
+    let mut files = files_of(alloc, &FILES, &[2])?;
     assert!(rt; fails_by(alloc, &mut files, "a", FileFault::Read));
     assert!(rt; reads_front(alloc, &mut files, "a", b"second", false));
     assert!(rt; fails_by(alloc, &mut files, "A", FileFault::Absent));
@@ -145,22 +142,12 @@ fn disk_files_are_read(rt: HostRuntime) -> Result<(), Fail> {
     Ok(())
 }
 
-// Appends so many bytes, which repeat after 251.
-fn push_unequal(size: u32, bytes: &mut Vec<u8>) -> Result<(), AllocError> {
-    for k in 0..size {
-        bytes.push((k % 251) as u8)?;
-    }
-    Ok(())
-}
-
 // A real file that takes three reads: each piece comes from its place, also where the front ends in the second.
 #[test]
 fn long_disk_files_are_read_in_order(rt: HostRuntime) -> Result<(), Fail> {
     let alloc = rt.alloc();
-    let mut front = Vec::new(alloc);
-    push_unequal(70_001, &mut front)?;
-    let mut whole = Vec::new(alloc);
-    push_unequal(140_000, &mut whole)?;
+    let front = text_of(alloc, 70_001)?;
+    let whole = text_of(alloc, 140_000)?;
     fs::write(&rt, "ports_long_test", whole.as_slice())?;
     let mut files = DiskFiles::new(alloc, &rt);
     assert!(rt; reads_front(alloc, &mut files, "ports_long_test", &whole, false));

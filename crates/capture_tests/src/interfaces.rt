@@ -13,8 +13,8 @@ const LATE: [i64; 2] = [4_611_686_018, i64::MAX];
 // One by which a stamp may come below 0, and one by which each is far below.
 const EARLY: [i64; 2] = [-1_000_000_000, i64::MIN];
 
-// Whether all is big-endian, the seconds that the two interfaces of a section add, the number of the one with the packet, the
-// packet's time in us, and its stamp in ns or why the capture is refused.
+// Whether all is big-endian, the seconds that the two interfaces of a section add, the number of the one with the
+// packet, the packet's time in us, and its stamp in ns or why the capture is refused.
 const OFFSETS: [(bool, [i64; 2], u8, u64, Result<u64, CaptureError>); 11] = [
     (false, SHIFTED, 0, 5_000_001, Ok(8_000_001_000)),
     (false, SHIFTED, 1, 5_000_001, Ok(3_000_001_000)),

@@ -62,7 +62,8 @@ fn packets_at(cut: usize) -> usize {
     }
 }
 
-// Whether the bytes, cut here, are refused as soon as the first 16 bytes of the second header are there, with no other packets.
+// Whether the bytes, cut here, are refused as soon as the first 16 bytes of the second header are there, with no other
+// packets.
 fn is_refused_when_cut(alloc: Global, bytes: &[u8], cut: usize) -> bool
     requires cut { cut ≤ length bytes.now }
     requires short { length bytes.now ≤ 124 }

@@ -1,7 +1,8 @@
 // Worked texts of certificates that are read, and faults of others.
 use cert::{CertError, read_cert};
 use problem::{Problem, read_problem};
-use std::alloc::{AllocError, Global};
+use shared_fixtures::text_with;
+use std::alloc::Global;
 use std::test::*;
 
 // Two readings of clock a, and a message each way, of which one has no greatest delay.
@@ -61,34 +62,6 @@ const ENDS: [&str; 20] = [
 // A text in the place of a line, and the fault that it makes.
 pub(crate) type Case = (usize, &'static str, CertError);
 
-// Appends the lines, with another text in the place of one.
-pub(crate) fn push_lines(
-    bytes: &mut Vec<u8>,
-    lines: &[&str],
-    place: usize,
-    text: &str,
-) -> Result<(), AllocError> {
-    for (k, line) in lines.iter().enumerate() {
-        let line = if k + 1 == place { text } else { *line };
-        bytes.extend_from_slice(line.as_bytes())?;
-    }
-    Ok(())
-}
-
-// The lines, with another text in the place of one.
-pub(crate) fn text_with(
-    alloc: Global,
-    lines: &[&str],
-    place: usize,
-    text: &str,
-) -> Result<Vec<u8>, CertError> {
-    let mut bytes = Vec::new(alloc);
-    match push_lines(&mut bytes, lines, place, text) {
-        Ok(()) => Ok(bytes),
-        Err(_) => Err(CertError::Memory),
-    }
-}
-
 // Why the text is refused, if it is.
 fn fault_of(
     alloc: Global,
@@ -99,7 +72,7 @@ fn fault_of(
 ) -> Option<CertError> {
     match text_with(alloc, lines, place, text) {
         Ok(bytes) => read_cert(alloc, p, &bytes).err(),
-        Err(error) => Some(error),
+        Err(_) => Some(CertError::Memory),
     }
 }
 

@@ -3,13 +3,12 @@ ghost use Rattle.std.specs.Prelude.{IsTrue};
 ghost use Rattle.problem.specs.Listing.{listing_of};
 ghost use Rattle.cert.specs.Listed.{HasNames};
 
-use crate::certificates_read::text_with;
 use atto::Nano;
 use cert::{CertError, Execution, read_execution, write_step, write_value};
 use ports::MemSink;
 use problem::{Listing, Problem, read_problem};
 use problem_model::Bound;
-use shared_fixtures::TWO_LOGS_PROBLEM;
+use shared_fixtures::{TWO_LOGS_PROBLEM, text_with};
 use std::alloc::Global;
 use std::test::*;
 
@@ -37,8 +36,10 @@ fn read_text(alloc: Global, text: &[u8]) -> Result<Execution, CertError> {
 
 // What the lines read as, with another text in the place of one.
 fn read_with(alloc: Global, place: usize, text: &str) -> Result<Execution, CertError> {
-    let bytes = text_with(alloc, &LINES, place, text)?;
-    read_text(alloc, &bytes)
+    match text_with(alloc, &LINES, place, text) {
+        Ok(bytes) => read_text(alloc, &bytes),
+        Err(_) => Err(CertError::Memory),
+    }
 }
 
 // Why the lines are refused, with another text in the place of one.

@@ -6,6 +6,7 @@ use atto::Steps;
 use cert_check::{Answer, Links, What};
 use ports::MemSink;
 use problem::{Problem, read_problem};
+use shared_fixtures::{CONTRADICTING_PROBLEM, HOPELESS_PROBLEM, TWO_LOGS_PROBLEM};
 use std::alloc::{AllocError, Global};
 use std::marker::Brand;
 use std::sync::ledger::{Blank, Ledger};
@@ -16,23 +17,18 @@ use widen::{Widening, judge_text, least_widening, write_widening};
 const FOUND: [(&str, &str); 8] = [
     // Both messages and the 50 ns between them take 95 ns by the first clock, so with 20 ns at most each lacks 2.5 ns.
     (
-        "problem 1\nclock a 0 0 0 0\nclock b 0 0 0 0\nevent a#1 a 100\nevent a#2 a 195\nevent b#1 b 250\nevent b#2 b 300\n\
-        message a#1 b#1 10 20\nmessage b#2 a#2 10 20\nend\n",
+        CONTRADICTING_PROBLEM,
         "widening 1\nleast 3\nevent a#1 0.000000000\nevent a#2 95.000000000\nevent b#1 22.000000000\nevent b#2 72.000000000\n\
         reading a 100 0.000000000\nreading a 195 95.000000000\nreading b 250 22.000000000\nreading b 300 72.000000000\ncycle\n",
     ),
     // The same with 80 ns by the first clock.
     (
-        "problem 1\nclock a 0 0 0 0\nclock b 0 0 0 0\nevent a#1 a 100\nevent a#2 a 180\nevent b#1 b 250\nevent b#2 b 300\n\
-        message a#1 b#1 10 20\nmessage b#2 a#2 10 20\nend\n",
+        TWO_LOGS_PROBLEM,
         "widening 1\nleast 0\nevent a#1 0.000000000\nevent a#2 80.000000000\nevent b#1 10.000000000\nevent b#2 60.000000000\n\
         reading a 100 0.000000000\nreading a 180 80.000000000\nreading b 250 10.000000000\nreading b 300 60.000000000\nend\n",
     ),
     // A message takes 20 ns at least between events that are 10 ns apart.
-    (
-        "problem 1\nclock c 0 0 0 0\nevent p c 0\nevent q c 10\nmessage p q 20 none\nend\n",
-        "widening 1\nleast none\ncycle\n",
-    ),
+    (HOPELESS_PROBLEM, "widening 1\nleast none\ncycle\n"),
     // With each message b loses 10 ns more, so that the last one seems to take 80 ns where the first takes 10.
     (
         "problem 1\nclock a 0 0 0 0\nclock b 0 0 0 0\nevent a#1 a 0\nevent a#2 a 1000\nevent a#3 a 2000\nevent a#4 a 3000\n\

@@ -3,10 +3,12 @@ ghost use Rattle.std.specs.Prelude.{◌≡◌, ◌<◌, length, IfOk, IsTrue};
 ghost use Rattle.widen.specs.Named.{NamesWhat};
 ghost use Rattle.widen.specs.Widening.{IsWideningOf};
 
+use crate::widenings::{FOLLOWED, FOLLOWED_NEVER};
 use atto::Steps;
 use cert_check::{Answer, Clocks, Links, What};
 use ports::MemSink;
 use problem::{Problem, read_problem};
+use shared_fixtures::{CONTRADICTING_PROBLEM, HOPELESS_PROBLEM};
 use std::alloc::{AllocError, Global};
 use std::marker::Brand;
 use std::sync::ledger::{Blank, Ledger};
@@ -14,20 +16,22 @@ use std::test::*;
 use widen::{Widening, judge_text, least_widening, write_widening};
 
 // Both messages and the 50 ns between them take 95 ns by the clock a, and 90 ns at most by what is declared.
-const LACKS_5: &str =
-    "problem 1\nclock a 0 0 0 0\nclock b 0 0 0 0\nevent a#1 a 100\nevent a#2 a 195\nevent b#1 b 250\nevent b#2 b 300\n\
-    message a#1 b#1 10 20\nmessage b#2 a#2 10 20\nend\n";
+const LACKS_5: &str = CONTRADICTING_PROBLEM;
 
 // A message takes 20 ns at least between events that are 10 ns apart.
-const APART: &str =
-    "problem 1\nclock c 0 0 0 0\nevent p c 0\nevent q c 10\nmessage p q 20 none\nend\n";
+const APART: &str = HOPELESS_PROBLEM;
 
 // It seems to arrive 10 ns before it is sent.
 const BEFORE: &str =
     "problem 1\nclock c 0 0 0 0\nevent p c 10\nevent q c 0\nmessage p q 20 none\nend\n";
 
+// A message goes back from the last of three clocks to the first. Both gaps are less by the same, and none is below 0.
+const FOLLOWED_TWICE: &str =
+    "problem 2\nclock a 0 0 0 0\nclock b 0 0 0 0\nclock c 0 0 0 0\nfollow a b 5\nfollow b c 12\n\
+    event p a 0\nevent q b 0\nevent r c 0\nmessage r p 0 none\nend\n";
+
 // What is widened of which problem, and by how much at least.
-const FOUND: [(&str, What, Option<u64>); 18] = [
+const FOUND: [(&str, What, Option<u64>); 24] = [
     (LACKS_5, What::Delays(Links::All), Some(3)),
     (
         LACKS_5,
@@ -66,6 +70,12 @@ const FOUND: [(&str, What, Option<u64>); 18] = [
     // A least delay is not below 0, and a span never the other way round.
     (BEFORE, What::Least(Links::All), None),
     (BEFORE, What::Rates(Clocks::All), None),
+    (FOLLOWED, What::Gaps, Some(7)),
+    (FOLLOWED, What::Least(Links::All), None),
+    (FOLLOWED, What::Stamps(Clocks::One(0)), Some(7)),
+    (FOLLOWED_NEVER, What::Gaps, None),
+    (FOLLOWED_TWICE, What::Gaps, Some(12)),
+    (LACKS_5, What::Gaps, None),
 ];
 
 // The least widening of a problem, with its steps counted by this ledger.
@@ -108,6 +118,7 @@ fn has_what(p: &Problem, what: What) -> bool
         What::Stamps(Clocks::All) | What::Rates(Clocks::All) => true,
         What::Stamps(Clocks::One(place)) => has_place(p, place),
         What::Rates(Clocks::One(place)) => has_place(p, place),
+        What::Gaps => true,
     }
 }
 

@@ -4,8 +4,8 @@
 //! `verdicts` what is answered of certificates, and `clocks_that_follow` what is answered where clocks follow each other
 //! (`cert_check`); `parts` makes parts of certificates, and `fixtures` has problems, for several of them.
 //!
-//! Tests of widenings: worked texts, what judging them answers, and their faults; the least widenings of small problems; and in how
-//! many rounds that of a long one is found.
+//! Tests of widenings: worked texts, what judging them answers, and their faults; the least widenings of small
+//! problems; and in how many rounds that of a long one is found.
 #![tactic(auto)]
 
 #[cfg(test)]

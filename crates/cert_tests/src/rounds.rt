@@ -67,8 +67,8 @@ fn found_within(alloc: Global, text: &str, limit: u64) -> (Option<u64>, bool) {
     }
 }
 
-// The last message seems to take 8000 ns where the first takes 10, and may take 20. One contradiction after another would take a round
-// for each message, and halving the range of widenings 63.
+// The last message seems to take 8000 ns where the first takes 10, and may take 20. One contradiction after another
+// would take a round for each message, and halving the range of widenings 63.
 #[test]
 fn contradiction_that_grows_is_healed_in_few_rounds(rt: HostRuntime) -> Result<(), Fail> {
     let text = growing(rt.alloc())?;

@@ -1,11 +1,11 @@
 // Worked certificates and what is wrong with each first.
-use crate::certificates_read::push_lines;
 use crate::fixtures::MESSAGE_PROBLEM;
 use crate::parts::{LEAST, MOST, NS, chain, execution};
 use cert::Cert;
 use cert_check::{Answer, Part, Reason, check, check_text};
 use problem::{Problem, read_problem};
 use problem_model::Bound;
+use shared_fixtures::push_lines;
 use std::alloc::{AllocError, Global};
 use std::test::*;
 
@@ -406,8 +406,8 @@ pub(crate) fn text_answers(alloc: Global, p: &Problem, text: &[u8], want: &Answe
 fn push_ends(text: &mut Vec<u8>, events: &str, case: &Ends) -> Result<(), AllocError> {
     text.extend_from_slice(b"certificate 1\n")?;
     text.extend_from_slice(events.as_bytes())?;
-    push_lines(text, &case.0, 0, "")?;
-    push_lines(text, &case.1, 0, "")?;
+    push_lines(text, &case.0)?;
+    push_lines(text, &case.1)?;
     text.extend_from_slice(b"end\n")
 }
 

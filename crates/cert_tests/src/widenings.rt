@@ -1,10 +1,11 @@
 // Worked texts of widenings: what judging them answers, why others are refused, and that they are written as they are read.
+use atto::Nano;
 use cert::CertError;
-use cert_check::{Answer, Links, Part, Reason, What};
+use cert_check::{Answer, Part, Reason};
 use problem::{Problem, read_problem};
 use problem_model::Bound;
-use shared_fixtures::{CONTRADICTING_PROBLEM, HOPELESS_PROBLEM, TWO_LOGS_PROBLEM};
-use std::alloc::{AllocError, Global};
+use shared_fixtures::{CONTRADICTING_PROBLEM, HOPELESS_PROBLEM, TWO_LOGS_PROBLEM, text_with};
+use std::alloc::Global;
 use std::test::*;
 use widen::judge_text;
 
@@ -94,19 +95,41 @@ const FAR_NONE: [&str; 9] = [
     "end\n",
 ];
 
-// Appends the lines, with another text in the place of one.
-fn push_lines(
-    bytes: &mut Vec<u8>,
-    lines: &[&str],
-    place: usize,
-    text: &str,
-) -> Result<(), AllocError> {
-    for (k, line) in lines.iter().enumerate() {
-        let line = if k + 1 == place { text } else { *line };
-        bytes.extend_from_slice(line.as_bytes())?;
-    }
-    Ok(())
-}
+// The clock b is 10 ns behind a. The message from b to a takes 1 ns at least, so 3 ns are left: p may come 3 ns behind
+// its reading, and q 1 ns before its own.
+pub(crate) const FOLLOWED: &str =
+    "problem 2\nclock a 0 0 0 3\nclock b 0 0 1 0\nfollow a b 10\nevent p a 0\nevent q b 0\nmessage q p 1 none\nend\n";
+
+// With gaps of 7 ns less b is 3 ns behind a; with 6 ns less it is 4.
+const GAPS_SEVEN: [&str; 12] = [
+    "widening 1\n",
+    "least 7 gaps\n",
+    "event p 3.000000000\n",
+    "event q 2.000000000\n",
+    "reading a 0 0.000000000\n",
+    "reading b 0 3.000000000\n",
+    "cycle\n",
+    "step follow a 0 b 0 -4.000000000\n",
+    "step late p 3.000000000\n",
+    "step delay-least q p -1.000000000\n",
+    "step early q 1.000000000\n",
+    "end\n",
+];
+
+// The same with a message of 5 ns at least: without any gap the sum is -1 ns still.
+pub(crate) const FOLLOWED_NEVER: &str =
+    "problem 2\nclock a 0 0 0 3\nclock b 0 0 1 0\nfollow a b 10\nevent p a 0\nevent q b 0\nmessage q p 5 none\nend\n";
+
+const GAPS_NEVER: [&str; 8] = [
+    "widening 1\n",
+    "least none gaps\n",
+    "cycle\n",
+    "step follow a 0 b 0 0.000000000\n",
+    "step late p 3.000000000\n",
+    "step delay-least q p -5.000000000\n",
+    "step early q 1.000000000\n",
+    "end\n",
+];
 
 // The answer of the lines with another text in the place of one.
 fn answer_with(
@@ -116,9 +139,8 @@ fn answer_with(
     place: usize,
     text: &str,
 ) -> Result<Answer, CertError> {
-    let mut bytes = Vec::new(alloc);
-    match push_lines(&mut bytes, lines, place, text) {
-        Ok(()) => judge_text(alloc, p, &bytes),
+    match text_with(alloc, lines, place, text) {
+        Ok(bytes) => judge_text(alloc, p, &bytes),
         Err(_) => Err(CertError::Memory),
     }
 }
@@ -391,4 +413,90 @@ fn no_widening_has_no_real_times(rt: HostRuntime) {
         (4, "step delay-most p q 0.000000000\n", CertError::Name(4)),
     ];
     assert!(rt; have_faults(rt.alloc(), HOPELESS_PROBLEM, &NONE, &cases));
+}
+
+// What breaks the follow from a to b of `FOLLOWED`, where it has this weight and they are 3 ns apart.
+fn gap_broken(weight: i128) -> Option<Answer> {
+    let follow = Bound::Follow {
+        earlier: 0,
+        s: Nano::new(0)?,
+        later: 1,
+        t: Nano::new(0)?,
+    };
+    Some(broken(follow, weight, -3 * NS))
+}
+
+// Whether the execution of `GAPS_SEVEN` breaks the follow, which has this weight, with another second line.
+fn breaks_gap(alloc: Global, line: &str, weight: i128) -> bool {
+    let Ok(p) = read_problem(alloc, FOLLOWED.as_bytes()) else {
+        return false;
+    };
+    match gap_broken(weight) {
+        Some(answer) => answer_with(alloc, &p, &GAPS_SEVEN, 2, line) == Ok(answer),
+        None => false,
+    }
+}
+
+#[test]
+fn gaps_of_seven_less_are_judged_from_both_sides(rt: HostRuntime) {
+    let cases = [
+        (0, "", Answer::Yes),
+        // With 8 ns less the execution stands, but the cycle is not one of 7; and so where no gap is left.
+        (2, "least 8 gaps\n", cycle(Reason::Weight(1))),
+        (2, "least 11 gaps\n", cycle(Reason::Weight(1))),
+        // The weights that are declared, and those of 7.
+        (
+            8,
+            "step follow a 0 b 0 -10.000000000\n",
+            cycle(Reason::Weight(1)),
+        ),
+        (
+            8,
+            "step follow a 0 b 0 -3.000000000\n",
+            cycle(Reason::Weight(1)),
+        ),
+        // No other bound weighs less where gaps do.
+        (
+            10,
+            "step delay-least q p 0.000000000\n",
+            cycle(Reason::Weight(3)),
+        ),
+    ];
+    assert!(rt; have_answers(rt.alloc(), FOLLOWED, &GAPS_SEVEN, &cases));
+}
+
+#[test]
+fn execution_is_judged_by_the_gap_that_is_left(rt: HostRuntime) {
+    assert!(rt; breaks_gap(rt.alloc(), "least 6 gaps\n", -4 * NS));
+    // Where other numbers are widened the gap is as it is declared.
+    assert!(rt; breaks_gap(rt.alloc(), "least 7\n", -10 * NS));
+    assert!(rt; breaks_gap(rt.alloc(), "least 7 least\n", -10 * NS));
+}
+
+#[test]
+fn gaps_have_no_names(rt: HostRuntime) {
+    let cases = [
+        (2, "least 7 gap\n", CertError::Syntax(2)),
+        (2, "least 7 gaps a\n", CertError::Syntax(2)),
+        (2, "least 7 gaps a b\n", CertError::Syntax(2)),
+    ];
+    assert!(rt; have_faults(rt.alloc(), FOLLOWED, &GAPS_SEVEN, &cases));
+}
+
+#[test]
+fn no_gap_is_below_0(rt: HostRuntime) {
+    let cases = [
+        (0, "", Answer::Yes),
+        (
+            4,
+            "step follow a 0 b 0 -10.000000000\n",
+            cycle(Reason::Weight(1)),
+        ),
+        (
+            4,
+            "step follow a 0 b 0 5.000000000\n",
+            cycle(Reason::Weight(1)),
+        ),
+    ];
+    assert!(rt; have_answers(rt.alloc(), FOLLOWED_NEVER, &GAPS_NEVER, &cases));
 }

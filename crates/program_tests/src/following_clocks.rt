@@ -4,6 +4,7 @@ use crate::runs::{Wanted, prints};
 use crate::verified_certificates::{rows_verified, solve_into};
 use ports::{MemFiles, MemSink};
 use problem_commands::Status;
+use shared_fixtures::push_lines;
 use std::alloc::{AllocError, Global};
 use std::test::Fail;
 
@@ -66,14 +67,6 @@ const STEPS: [&str; 4] = [
     "step late p 0.000000000\n",
 ];
 
-// Adds these steps.
-fn push_steps(steps: &[&str], text: &mut Vec<u8>) -> Result<(), AllocError> {
-    for step in steps {
-        text.extend_from_slice(step.as_bytes())?;
-    }
-    Ok(())
-}
-
 // Whether this is the certificate of the contradiction with these steps, and then those.
 fn is_cycle_of(
     alloc: Global,
@@ -82,8 +75,8 @@ fn is_cycle_of(
     others: &[&str],
 ) -> Result<bool, AllocError> {
     let mut text = Vec::from_slice(alloc, b"certificate 1\ncycle\n")?;
-    push_steps(steps, &mut text)?;
-    push_steps(others, &mut text)?;
+    push_lines(&mut text, steps)?;
+    push_lines(&mut text, others)?;
     text.extend_from_slice(b"end\n")?;
     Ok(text.as_slice() == printed)
 }

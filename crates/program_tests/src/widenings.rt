@@ -164,11 +164,46 @@ fn what_is_not_there_is_not_widened(rt: HostRuntime) -> Result<(), Fail> {
 // messages of 20 at most; and with the one whose message takes 20 ns at least, while its clock counts 10.
 const BLAMED: &str =
     "blame delays 3 ns\nblame least none\nblame stamps 2 ns\nblame rates 34482759 ppb\nblame stamps a 3 ns\n\
-    blame rates a 52631579 ppb\nblame stamps b 3 ns\nblame rates b 100000000 ppb\nend\n";
+    blame rates a 52631579 ppb\nblame stamps b 3 ns\nblame rates b 100000000 ppb\nblame delays a b 5 ns\n\
+    blame least a b none\nblame delays b a 5 ns\nblame least b a none\nend\n";
 
 const BLAMED_LEAST: &str =
     "blame delays none\nblame least 10 ns\nblame stamps 5 ns\nblame rates 1000000000 ppb\nblame stamps c 5 ns\n\
-    blame rates c 1000000000 ppb\nend\n";
+    blame rates c 1000000000 ppb\nblame delays c c none\nblame least c c 10 ns\nend\n";
+
+// Host web waits 95 ns, of which db accounts for 85: 10 are left for messages of 20 ns and of 5 at least, 15 too few.
+// With least delays of e ns less the one has 20 - e and the other none from 5 on, so 10 heal; of the second link all 5
+// do not. Events that are e ns off change each wait by 2 e, and rates that are off by r the one by 95 r, the other by
+// 85 r.
+const SHORT_PROBLEM: &str =
+    "problem 1\nclock web 0 0 0 0\nclock db 0 0 0 0\nevent ask web 100\nevent hear web 195\nevent get db 250\n\
+    event tell db 335\nmessage ask get 20 30\nmessage tell hear 5 30\nend\n";
+
+const BLAMED_SHORT: &str =
+    "blame delays none\nblame least 10 ns\nblame stamps 4 ns\nblame rates 83333334 ppb\nblame stamps web 8 ns\n\
+    blame rates web 157894737 ppb\nblame stamps db 8 ns\nblame rates db 176470589 ppb\nblame delays web db none\n\
+    blame least web db 15 ns\nblame delays db web none\nblame least db web none\nend\n";
+
+// The same with 90 ns of db and with 10 at least for either message, 15 too few again: 8 ns less for both heal, but
+// the 10 ns of one of them do not.
+const BOTH_PROBLEM: &str =
+    "problem 1\nclock web 0 0 0 0\nclock db 0 0 0 0\nevent ask web 100\nevent hear web 195\nevent get db 250\n\
+    event tell db 340\nmessage ask get 10 30\nmessage tell hear 10 30\nend\n";
+
+const BLAMED_BOTH: &str =
+    "blame delays none\nblame least 8 ns\nblame stamps 4 ns\nblame rates 81081082 ppb\nblame stamps web 8 ns\n\
+    blame rates web 157894737 ppb\nblame stamps db 8 ns\nblame rates db 166666667 ppb\nblame delays web db none\n\
+    blame least web db none\nblame delays db web none\nblame least db web none\nend\n";
+
+// A message goes from the later clock back to the earlier one, over a gap of 10 ns.
+const BACK_PROBLEM: &str =
+    "problem 2\nclock old 0 0 0 0\nclock new 0 0 0 0\nfollow old new 10\nevent p old 5\nevent q new 0\n\
+    message q p 0 none\nend\n";
+
+const BLAMED_BACK: &str =
+    "blame delays none\nblame least none\nblame stamps 5 ns\nblame rates none\nblame gaps 10 ns\n\
+    blame stamps old 10 ns\nblame rates old none\nblame stamps new 10 ns\nblame rates new none\n\
+    blame delays new old none\nblame least new old none\nend\n";
 
 #[test]
 fn each_candidate_is_told(rt: HostRuntime) -> Result<(), Fail> {
@@ -181,8 +216,19 @@ fn each_candidate_is_told(rt: HostRuntime) -> Result<(), Fail> {
     Ok(())
 }
 
+#[test]
+fn links_and_gaps_are_told(rt: HostRuntime) -> Result<(), Fail> {
+    let alloc = rt.alloc();
+    let words = ["blame", "p"];
+    let done = Status::Done;
+    assert!(rt; ends_so(alloc, &words, SHORT_PROBLEM, done, BLAMED_SHORT)?);
+    assert!(rt; ends_so(alloc, &words, BOTH_PROBLEM, done, BLAMED_BOTH)?);
+    assert!(rt; ends_so(alloc, &words, BACK_PROBLEM, done, BLAMED_BACK)?);
+    Ok(())
+}
+
 // What `widen` prints with which words behind the contradicting problem.
-const NAMED: [(&[&str], &str); 6] = [
+const NAMED: [(&[&str], &str); 7] = [
     (&["widen", "p", "delays"], "widening 1\nleast 3\nevent"),
     (
         &["widen", "p", "least"],
@@ -199,6 +245,10 @@ const NAMED: [(&[&str], &str); 6] = [
     (
         &["widen", "p", "rates", "b"],
         "widening 1\nleast 100000000 rates b\nevent",
+    ),
+    (
+        &["widen", "p", "gaps"],
+        "widening 1\nleast none gaps\ncycle\n",
     ),
     (
         &["widen", "p", "delays", "b", "a"],

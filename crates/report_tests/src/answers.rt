@@ -23,8 +23,8 @@ use std::test::*;
 // Two events at one reading.
 const TOGETHER: &str = "problem 1\nclock c 0 0 0 0\nevent p c 5\nevent q c 5\nend\n";
 
-// A source, whose clock r keeps time, and a host. Event r#1, stamped 1000, sends to b#1, which sends back to r#2. Their places
-// are 1, 2 and 0.
+// A source, whose clock r keeps time, and a host. Event r#1, stamped 1000, sends to b#1, which sends back to r#2. Their
+// places are 1, 2 and 0.
 const SOURCE: &str =
     "problem 1\nclock r 0 0 0 0\nclock b 0 0 0 0\nevent r#2 r 1500\nevent r#1 r 1000\nevent b#1 b 250\n\
     message r#1 b#1 10 20\nmessage b#1 r#2 0 none\nend\n";

@@ -33,6 +33,7 @@ struct Drops {
 // What is reported, and its line.
 #[derive(Clone, Copy)]
 struct Case {
+    alone: Option<u32>,
     events: u32,
     messages: u32,
     unmatched: u32,
@@ -62,6 +63,7 @@ const NONE_PASSED: PassedSums = PassedSums {
 };
 
 const NOTHING: Case = Case {
+    alone: None,
     events: 0,
     messages: 0,
     unmatched: 0,
@@ -74,6 +76,7 @@ const NOTHING: Case = Case {
 };
 
 const SECOND_SEND: Case = Case {
+    alone: Some(0),
     events: 5,
     messages: 1,
     unmatched: 0,
@@ -92,13 +95,14 @@ const SECOND_SEND: Case = Case {
         sends: &["a#1", "a#3"],
         receives: &["b#1"],
     }],
-    line: "{\"ambiguous\":[{\"key\":\"log m1\",\"receives\":[\"b#1\"],\"sends\":[\"a#1\",\"a#3\"]}],\"consistent\":true,\
+    line: "{\"alone\":0,\"ambiguous\":[{\"key\":\"log m1\",\"receives\":[\"b#1\"],\"sends\":[\"a#1\",\"a#3\"]}],\"consistent\":true,\
     \"dropped\":[{\"interface\":0,\"label\":\"b\",\"system\":18446744073709551615}],\
     \"events\":5,\"messages\":1,\"nokey\":{\"fragment\":0,\"header\":0,\"length\":0,\"link\":0,\"local\":0,\"other\":0,\
     \"short\":0,\"side\":0},\"unmatched\":0}\n",
 };
 
 const CAPTURE: Case = Case {
+    alone: None,
     events: 11,
     messages: 2,
     unmatched: 1,
@@ -148,6 +152,7 @@ const CAPTURE: Case = Case {
 };
 
 const ESCAPES: Case = Case {
+    alone: Some(4294967295),
     events: 4294967295,
     messages: 10,
     unmatched: 200,
@@ -173,7 +178,7 @@ const ESCAPES: Case = Case {
         sends: &["z.log_1-x#1"],
         receives: &["z.log_1-x#2", "z.log_1-x#1000000"],
     }],
-    line: "{\"ambiguous\":[{\"key\":\"log \\\"q\\\\/'~\",\"receives\":[\"z.log_1-x#2\",\"z.log_1-x#1000000\"],\
+    line: "{\"alone\":4294967295,\"ambiguous\":[{\"key\":\"log \\\"q\\\\/'~\",\"receives\":[\"z.log_1-x#2\",\"z.log_1-x#1000000\"],\
     \"sends\":[\"z.log_1-x#1\"]}],\"consistent\":false,\"events\":4294967295,\"messages\":10,\
     \"nokey\":{\"fragment\":50000,\"header\":4000,\"length\":600000,\"link\":1,\"local\":4294967295,\"other\":20,\
     \"short\":300,\"side\":7000000},\"passed\":{\"obsolete\":4294967296,\"other\":70,\
@@ -181,6 +186,7 @@ const ESCAPES: Case = Case {
 };
 
 const GROUPS: Case = Case {
+    alone: None,
     events: 24,
     messages: 3,
     unmatched: 2,
@@ -281,6 +287,7 @@ fn drops_of(alloc: Global, labels: &[Drops]) -> Result<Vec<LabelDrops>, AllocErr
 
 fn line_of(alloc: Global, case: &Case) -> Result<Vec<u8>, AllocError> {
     let view = View {
+        alone: case.alone,
         events: case.events,
         messages: case.messages,
         unmatched: case.unmatched,

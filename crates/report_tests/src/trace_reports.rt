@@ -229,12 +229,12 @@ const GROUPS: Case = Case {
     ],
     turns: &[(3, 1), (2, 3), (3, 1), (2, 1)],
     consistent: true,
-    line: "{\"ambiguous\":[{\"key\":\"log m\",\"receives\":[\"lb#1\"],\"sends\":[\"la#1\",\"la#2\"]}],\"consistent\":true,\
-    \"events\":6,\"messages\":1,\"nokey\":{\"fragment\":0,\"header\":0,\"length\":0,\"link\":0,\"local\":0,\"other\":0,\
+    line: "{\"alone\":0,\"ambiguous\":[{\"key\":\"log m\",\"receives\":[\"lb#1\"],\"sends\":[\"la#1\",\"la#2\"]}],\
+    \"consistent\":true,\"events\":6,\"messages\":1,\"nokey\":{\"fragment\":0,\"header\":0,\"length\":0,\"link\":0,\"local\":0,\"other\":0,\
     \"short\":0,\"side\":0},\"unmatched\":1}\n",
 };
 
-// Two ambiguous groups of one word, and ends of another one that lie further apart than the window.
+// Two ambiguous groups of one word, and ends of another one that lie further apart than the window: it stands alone.
 const APART: Case = Case {
     frames: [&[], &[]],
     logs: [
@@ -244,13 +244,55 @@ const APART: Case = Case {
     ],
     turns: &[(3, 4), (2, 4)],
     consistent: true,
-    line: "{\"ambiguous\":[{\"key\":\"log m\",\"receives\":[\"lb#1\"],\"sends\":[\"la#1\",\"la#2\"]},{\"key\":\"log m\",\
+    line: "{\"alone\":1,\"ambiguous\":[{\"key\":\"log m\",\"receives\":[\"lb#1\"],\"sends\":[\"la#1\",\"la#2\"]},{\"key\":\"log m\",\
     \"receives\":[\"lb#3\",\"lb#4\"],\"sends\":[\"la#4\"]}],\"consistent\":true,\"events\":8,\"messages\":0,\
     \"nokey\":{\"fragment\":0,\"header\":0,\"length\":0,\"link\":0,\"local\":0,\"other\":0,\"short\":0,\"side\":0},\
     \"unmatched\":2}\n",
 };
 
-const WINDOW_CASES: [Case; 3] = [NOTHING, GROUPS, APART];
+// The ends of each message lie 11 ns apart, from 95 to 106, from 195 to 206 and from 395 to 406, so none meet: the words m,
+// in four groups, and n stand alone. The word q is never received.
+const TOO_FAR: Case = Case {
+    frames: [&[], &[]],
+    logs: [
+        b"100,send,m,\n200,send,n,\n300,send,q,\n400,send,m,\n",
+        b"106,receive,m,\n206,receive,n,\n406,receive,m,\n",
+        b"",
+    ],
+    turns: &[(2, 3), (3, 2), (2, 1), (3, 1)],
+    consistent: true,
+    line: "{\"alone\":2,\"ambiguous\":[],\"consistent\":true,\"events\":7,\"messages\":0,\
+    \"nokey\":{\"fragment\":0,\"header\":0,\"length\":0,\"link\":0,\"local\":0,\"other\":0,\"short\":0,\"side\":0},\
+    \"unmatched\":7}\n",
+};
+
+// The same where they lie 10 ns apart, but for the last ends of m: of its other two groups one has both ends.
+const NEAR: Case = Case {
+    frames: [&[], &[]],
+    logs: [
+        b"100,send,m,\n200,send,n,\n300,send,q,\n400,send,m,\n",
+        b"105,receive,m,\n205,receive,n,\n406,receive,m,\n",
+        b"",
+    ],
+    turns: &[(3, 3), (2, 4)],
+    consistent: true,
+    line: "{\"alone\":0,\"ambiguous\":[],\"consistent\":true,\"events\":7,\"messages\":2,\
+    \"nokey\":{\"fragment\":0,\"header\":0,\"length\":0,\"link\":0,\"local\":0,\"other\":0,\"short\":0,\"side\":0},\
+    \"unmatched\":3}\n",
+};
+
+// No events where a window is declared.
+const NONE_ALONE: Case = Case {
+    frames: [&[], &[]],
+    logs: [b"", b"", b""],
+    turns: &[],
+    consistent: true,
+    line: "{\"alone\":0,\"ambiguous\":[],\"consistent\":true,\"events\":0,\"messages\":0,\
+    \"nokey\":{\"fragment\":0,\"header\":0,\"length\":0,\"link\":0,\"local\":0,\"other\":0,\"short\":0,\"side\":0},\
+    \"unmatched\":0}\n",
+};
+
+const WINDOW_CASES: [Case; 5] = [NONE_ALONE, GROUPS, APART, TOO_FAR, NEAR];
 
 const CASES: [Case; 8] = [
     NOTHING,

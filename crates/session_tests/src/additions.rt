@@ -5,7 +5,7 @@ use crate::fixtures::{
 use ports::{MemFiles, MemSink};
 use session::{Session, Stop};
 use shared_fixtures::{
-    CYCLE, TWO_CAPTURES_DECLARATION, TWO_LOGS_DECLARATION, TWO_LOGS_PROBLEM, added,
+    CYCLE, TWO_CAPTURES_DECLARATION, TWO_LOGS_DECLARATION, TWO_LOGS_PROBLEM, added, files_of,
 };
 use std::alloc::{AllocError, Global};
 use std::test::*;
@@ -59,8 +59,8 @@ const FILES: [(&str, &str); 11] = [
     ("empty.csv", ""),
 ];
 
-// Pieces of captures by their paths: no magic number in either format, version 2.3, a record of 2^32 - 1 bytes, the front of a
-// second header behind the first one, a byte, and two bytes that may begin a section header.
+// Pieces of captures by their paths: no magic number in either format, version 2.3, a record of 2^32 - 1 bytes, the
+// front of a second header behind the first one, a byte, and two bytes that may begin a section header.
 const PIECES: [(&str, &[u8]); 7] = [
     ("no.pcap", &[0x0b, 0x0d]),
     ("no.pcapng", &[0x0a, 0x0d, 0x0d, 0x0d]),
@@ -258,10 +258,7 @@ fn put_captures(alloc: Global, files: &mut MemFiles) -> Result<(), AllocError> {
 }
 
 fn put_files(alloc: Global, fails: &[u32]) -> Result<MemFiles, AllocError> {
-    let mut files = MemFiles::new(alloc, fails)?;
-    for (path, text) in &FILES {
-        files.put(path, text.as_bytes())?;
-    }
+    let mut files = files_of(alloc, &FILES, fails)?;
     put_captures(alloc, &mut files)?;
     Ok(files)
 }

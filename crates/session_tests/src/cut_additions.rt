@@ -179,8 +179,8 @@ const ALTERED: [(&[(usize, u8)], &str, &str); 8] = [
         TWO_EVENTS,
         "problem 1\nclock a 0 0 0 0\nclock b 0 0 0 0\nevent a#1 a 9000100000\nevent a#2 a 9000180000\nend\n",
     ),
-    // An option that passes the end of its block, a block of 13 bytes, a section of another version, and a packet of too many
-    // bytes.
+    // An option that passes the end of its block, a block of 13 bytes, a section of another version, and a packet of
+    // too many bytes.
     (&[(46, 9)], "refused 31 28\n", NO_PROBLEM),
     (&[(32, 13)], "refused 31 28\n", NO_PROBLEM),
     (&[(12, 2)], "refused 24 2\n", NO_PROBLEM),

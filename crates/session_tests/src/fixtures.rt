@@ -34,8 +34,8 @@ pub(crate) const CAPTURE_B: [u8; 112] = [
     0x88, 0, 8, 0, 0, //
 ];
 
-// The packets of the first capture at the same times, in pcapng: a section of little-endian numbers, and an interface of link type 101
-// that counts nanoseconds.
+// The packets of the first capture at the same times, in pcapng: a section of little-endian numbers, and an interface
+// of link type 101 that counts nanoseconds.
 pub(crate) const BLOCKS_A: [u8; 180] = [
     0x0a, 0x0d, 0x0d, 0x0a, 28, 0, 0, 0, 0x4d, 0x3c, 0x2b, 0x1a, 1, 0, 0, 0, //
     255, 255, 255, 255, 255, 255, 255, 255, 28, 0, 0, 0, //

@@ -1,9 +1,8 @@
 // Sessions that keep events, with the replies to all that is asked of them.
 use crate::fixtures::{TWO_EVENTS, TWO_MESSAGES, replies_over};
-use ports::MemFiles;
 use session::Stop;
-use shared_fixtures::{TWO_LOGS_DECLARATION, added};
-use std::alloc::{AllocError, Global};
+use shared_fixtures::{TWO_LOGS_DECLARATION, added, files_of};
+use std::alloc::Global;
 use std::test::*;
 
 // The replies to an addition of one event that takes a message back, and of two that contradict what was declared.
@@ -81,17 +80,9 @@ const CONTRADICTION: Lines = &[
     ("interval a#1 a#3", "interval 100.000000000 100.000000000\n"),
 ];
 
-fn put_files(alloc: Global) -> Result<MemFiles, AllocError> {
-    let mut files = MemFiles::new(alloc, &[])?;
-    for (path, text) in &LOGS {
-        files.put(path, text.as_bytes())?;
-    }
-    Ok(files)
-}
-
 // Whether a session gives these replies.
 fn replies(alloc: Global, lines: &[(&str, &str)]) -> Result<bool, Stop> {
-    let mut files = put_files(alloc)?;
+    let mut files = files_of(alloc, &LOGS, &[])?;
     replies_over(alloc, TWO_LOGS_DECLARATION, &mut files, lines)
 }
 

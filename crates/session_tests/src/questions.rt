@@ -3,7 +3,7 @@ use crate::fixtures::{MERGED, ONE_EVENT, TWO_EVENTS, TWO_MESSAGES, replies_over}
 use ports::MemFiles;
 use session::Stop;
 use shared_fixtures::{
-    APART_PROOF, CYCLE, EMPTY_REPORT, TWO_LOGS_DECLARATION, TWO_LOGS_PROOF, added,
+    APART_PROOF, CYCLE, EMPTY_REPORT, TWO_LOGS_DECLARATION, TWO_LOGS_PROOF, added, files_of,
 };
 use std::alloc::{AllocError, Global};
 use std::test::*;
@@ -21,6 +21,13 @@ const INEXACT_SOURCE_DECLARATION: &str =
 const UNLINKED_CAPTURES_DECLARATION: &str =
     "payload_bytes = 0\n[hosts.a]\naddresses = [\"10.0.0.1\"]\n[hosts.b]\naddresses = [\"10.0.0.2\"]\n\
     [labels.ca]\nhost = \"a\"\nkind = \"capture\"\n[labels.cb]\nhost = \"b\"\nkind = \"capture\"\n";
+
+// What is to blame where the two logs contradict each other: the way there and back takes 90 ns at most, 50 of them by
+// the clock of b, and 95 by the clock of a. No least delay heals that, whichever link it is of.
+const TWO_LOGS_BLAME: &str =
+    "blame delays 3 ns\nblame least none\nblame stamps 2 ns\nblame rates 34482759 ppb\nblame stamps a 3 ns\n\
+    blame rates a 52631579 ppb\nblame stamps b 3 ns\nblame rates b 100000000 ppb\nblame delays a b 5 ns\n\
+    blame least a b none\nblame delays b a 5 ns\nblame least b a none\nend\n";
 
 // The logs, by their paths.
 const LOGS: [(&str, &str); 11] = [
@@ -129,6 +136,7 @@ const CASES: [Case; 10] = [
             ("merge", MERGED),
             ("prove a#1 b#1", TWO_LOGS_PROOF),
             ("prove a#1 b#3", "refused 28\n"),
+            ("blame", "blame none\n"),
             ("time a#1", "refused 29\n"),
             ("time c#1", "refused 28\n"),
             ("add a note.csv", ONE_EVENT),
@@ -141,6 +149,7 @@ const CASES: [Case; 10] = [
             ("merge a", "refused 20\n"),
             ("time", "refused 20\n"),
             ("report ", "refused 20\n"),
+            ("blame a", "refused 20\n"),
             ("prove a#1", "refused 20\n"),
         ],
     },
@@ -170,6 +179,9 @@ const CASES: [Case; 10] = [
             ("merge", CYCLE),
             ("prove a#1 b#1", CYCLE),
             ("prove a#1 b#9", "refused 28\n"),
+            ("interval a#1 b#1", CYCLE),
+            ("blame", TWO_LOGS_BLAME),
+            ("interval a#1 b#1", CYCLE),
             ("time a#1", "refused 29\n"),
             (
                 "report",
@@ -203,6 +215,7 @@ const CASES: [Case; 10] = [
             ("merge", "merge 0\n"),
             ("problem", "problem 1\nend\n"),
             ("report", EMPTY_REPORT),
+            ("blame", "blame none\n"),
         ],
     },
     // Times by the source's clock, once it has a reading.
@@ -310,10 +323,7 @@ fn put_capture(
 }
 
 fn put_files(alloc: Global) -> Result<MemFiles, AllocError> {
-    let mut files = MemFiles::new(alloc, &[])?;
-    for (path, text) in &LOGS {
-        files.put(path, text.as_bytes())?;
-    }
+    let mut files = files_of(alloc, &LOGS, &[])?;
     put_capture(alloc, &mut files, "a.pcap", &FRAMES_A)?;
     put_capture(alloc, &mut files, "b.pcap", &FRAMES_B)?;
     Ok(files)

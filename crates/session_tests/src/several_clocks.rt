@@ -1,10 +1,9 @@
-// Sessions over hosts with several clocks: their events stand on the clocks of their labels, and each clock comes after those
-// before it that have readings.
+// Sessions over hosts with several clocks: their events stand on the clocks of their labels, and each clock comes after
+// those before it that have readings.
 use crate::fixtures::{ONE_EVENT, TWO_EVENTS, TWO_MESSAGES, replies_over};
-use ports::MemFiles;
 use session::Stop;
-use shared_fixtures::{TWO_CLOCKS_DECLARATION, added};
-use std::alloc::{AllocError, Global};
+use shared_fixtures::{TWO_CLOCKS_DECLARATION, added, files_of};
+use std::alloc::Global;
 use std::test::*;
 
 // The same where no time is known to be between the clocks, and where the first label does not name one.
@@ -48,11 +47,20 @@ const CYCLE: &str =
     "certificate 1\ncycle\nstep early q#1 0.000000000\nstep follow a1 0 a2 0 -5.000000000\n\
     step late p#1 0.000000000\nstep delay-least q#1 p#1 0.000000000\nend\n";
 
+// What is to blame where b received the message of the later clock 9 ns before that of the earlier one. At most 5 ns
+// may be between the two: the one takes 10 ns at least, and was sent 5 ns later than the other, which takes 20 at most.
+const BACKWARD_BLAME: &str =
+    "blame delays 4 ns\nblame least 4 ns\nblame stamps 1 ns\nblame rates 444444445 ppb\nblame gaps 4 ns\n\
+    blame stamps a1 4 ns\nblame rates a1 none\nblame stamps a2 4 ns\nblame rates a2 none\nblame stamps b 2 ns\n\
+    blame rates b 444444445 ppb\nblame delays a1 b 4 ns\nblame least a1 b none\nblame delays a2 b none\n\
+    blame least a2 b 4 ns\nend\n";
+
 // The logs, by their paths.
-const LOGS: [(&str, &str); 11] = [
+const LOGS: [(&str, &str); 12] = [
     ("a.csv", "100,send,m1,\n"),
     ("r.csv", "0,send,m2,\n"),
     ("b.csv", "250,receive,m1,\n255,receive,m2,\n"),
+    ("backward.csv", "250,receive,m2,\n259,receive,m1,\n"),
     ("0.csv", "0,local,,\n"),
     ("20.csv", "20,local,,\n"),
     ("40.csv", "40,local,,\n"),
@@ -69,7 +77,7 @@ struct Case {
     lines: &'static [(&'static str, &'static str)],
 }
 
-const CASES: [Case; 8] = [
+const CASES: [Case; 9] = [
     Case {
         declaration: TWO_CLOCKS_DECLARATION,
         lines: &[
@@ -96,6 +104,17 @@ const CASES: [Case; 8] = [
             ("interval a#1 r#1", "interval 0.000000000 15.000000000\n"),
             ("order a#1 r#1", "order open\n"),
             ("problem", NO_GAP_PROBLEM),
+        ],
+    },
+    // A contradiction in which the gap has a part.
+    Case {
+        declaration: TWO_CLOCKS_DECLARATION,
+        lines: &[
+            ("add a a.csv", ONE_EVENT),
+            ("add r r.csv", ONE_EVENT),
+            ("blame", "blame none\n"),
+            ("add b backward.csv", added!(2, 2, 0, 0, inconsistent)),
+            ("blame", BACKWARD_BLAME),
         ],
     },
     // The gap of the nearest clock with a reading counts, and the readings between, once they come.
@@ -194,17 +213,9 @@ const CASES: [Case; 8] = [
     },
 ];
 
-fn put_files(alloc: Global) -> Result<MemFiles, AllocError> {
-    let mut files = MemFiles::new(alloc, &[])?;
-    for (path, text) in &LOGS {
-        files.put(path, text.as_bytes())?;
-    }
-    Ok(files)
-}
-
 // Whether a session gives these replies.
 fn replies(alloc: Global, case: &Case) -> Result<bool, Stop> {
-    let mut files = put_files(alloc)?;
+    let mut files = files_of(alloc, &LOGS, &[])?;
     replies_over(alloc, case.declaration, &mut files, case.lines)
 }
 

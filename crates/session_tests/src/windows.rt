@@ -4,7 +4,7 @@ use crate::fixtures::{
 };
 use ports::MemFiles;
 use session::Stop;
-use shared_fixtures::added;
+use shared_fixtures::{added, files_of};
 use std::alloc::{AllocError, Global};
 use std::test::*;
 
@@ -41,14 +41,19 @@ const TWO_GROUPS_PROBLEM: &str =
 
 // The report where three events of a word are a message and one more.
 const ROW_REPORT: &str =
-    "{\"ambiguous\":[],\"consistent\":true,\"events\":3,\"messages\":1,\"nokey\":{\"fragment\":0,\"header\":0,\"length\":0,\
-    \"link\":0,\"local\":0,\"other\":0,\"short\":0,\"side\":0},\"unmatched\":1}\n";
+    "{\"alone\":0,\"ambiguous\":[],\"consistent\":true,\"events\":3,\"messages\":1,\"nokey\":{\"fragment\":0,\"header\":0,\
+    \"length\":0,\"link\":0,\"local\":0,\"other\":0,\"short\":0,\"side\":0},\"unmatched\":1}\n";
 
 // The report where two messages became one group.
 const JOINED_REPORT: &str =
-    "{\"ambiguous\":[{\"key\":\"log m\",\"receives\":[\"b#1\",\"b#2\"],\"sends\":[\"a#1\",\"a#2\",\"a#3\"]}],\
+    "{\"alone\":0,\"ambiguous\":[{\"key\":\"log m\",\"receives\":[\"b#1\",\"b#2\"],\"sends\":[\"a#1\",\"a#2\",\"a#3\"]}],\
     \"consistent\":true,\"events\":5,\"messages\":0,\"nokey\":{\"fragment\":0,\"header\":0,\"length\":0,\"link\":0,\
     \"local\":0,\"other\":0,\"short\":0,\"side\":0},\"unmatched\":0}\n";
+
+// The report where the only word stands alone.
+const ALONE_REPORT: &str =
+    "{\"alone\":1,\"ambiguous\":[],\"consistent\":true,\"events\":4,\"messages\":0,\"nokey\":{\"fragment\":0,\"header\":0,\
+    \"length\":0,\"link\":0,\"local\":0,\"other\":0,\"short\":0,\"side\":0},\"unmatched\":4}\n";
 
 // The logs, by their paths.
 const LOGS: [(&str, &str); 11] = [
@@ -91,6 +96,7 @@ const CASES: [Case; 8] = [
             ("add a far-a.csv", TWO_EVENTS),
             ("add b far-b.csv", TWO_EVENTS),
             ("interval a#1 b#1", "interval -inf +inf\n"),
+            ("report", ALONE_REPORT),
         ],
     },
     // Of three events in a row the last one is more than the window behind the second one.
@@ -151,10 +157,7 @@ const CASES: [Case; 8] = [
 ];
 
 fn put_files(alloc: Global) -> Result<MemFiles, AllocError> {
-    let mut files = MemFiles::new(alloc, &[])?;
-    for (path, text) in &LOGS {
-        files.put(path, text.as_bytes())?;
-    }
+    let mut files = files_of(alloc, &LOGS, &[])?;
     files.put("a.pcap", &CAPTURE_A)?;
     files.put("b.pcap", &CAPTURE_B)?;
     Ok(files)

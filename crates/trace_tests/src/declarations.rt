@@ -4,9 +4,9 @@ use decl::{Decl, DeclError, IpVersion, Section, TraceKind, read_decl};
 use std::alloc::Global;
 use std::test::*;
 
-// What a declaration is to say: the names of hosts; each clock's name, short, long, early and late; each clock's host, gap
-// and offset; addresses with their hosts; each label's name, host, clock and kind; links; the bytes of a payload; the window;
-// the source.
+// What a declaration is to say: the names of hosts; each clock's name, short, long, early and late; each clock's host,
+// gap and offset; addresses with their hosts; each label's name, host, clock and kind; links; the bytes of a payload;
+// the window; the source.
 #[derive(Clone, Copy)]
 pub(crate) struct Wanted {
     pub(crate) hosts: &'static [&'static str],

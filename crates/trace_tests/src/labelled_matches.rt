@@ -1,5 +1,5 @@
-// Events that are added label by label, by the numbers of a roster: what the index says of each addition and of all, and what
-// the plain filters say.
+// Events that are added label by label, by the numbers of a roster: what the index says of each addition and of all,
+// and what the plain filters say.
 ghost use Rattle.std.specs.Prelude.{OnOk};
 ghost use Rattle.traces.specs.Held.{seen_in};
 ghost use Rattle.reference_traces.specs.Added.{AreAllAdded};
@@ -13,18 +13,14 @@ use std::alloc::{AllocError, Global};
 use std::test::*;
 use traces::{Couple, Event, EventId, Mark, NoKey, Side};
 
-// An ambiguous key, and its events by label and number.
-struct Unclear {
-    key: &'static str,
-    sends: &'static [[u32; 2]],
-    receives: &'static [[u32; 2]],
-}
+// An ambiguous key, and its sends and receives by label and number.
+type Unclear = (&'static str, &'static [[u32; 2]], &'static [[u32; 2]]);
 
 // Events that are added to a label, and what is to follow.
 struct Step {
     label: u32,
-    // Side and key of each; a key with a `/` in front is that of a packet whose payload is the rest, behind an `@` stands its
-    // time in ns, where the window is 10 ns, and one without a letter is none.
+    // Side and key of each; a key with a `/` in front is that of a packet whose payload is the rest, behind an `@`
+    // stands its time in ns, where the window is 10 ns, and one without a letter is none.
     ends: &'static [(Side, &'static str)],
     added: u32,
     withdrawn: u32,
@@ -72,11 +68,7 @@ const OVER_AND_BACK: [Step; 6] = [
         withdrawn: 1,
         messages: &[[0, 2, 1, 1]],
         unmatched: 1,
-        unclear: &[Unclear {
-            key: "n",
-            sends: &[[0, 5], [1, 3]],
-            receives: &[[0, 3]],
-        }],
+        unclear: &[("n", &[[0, 5], [1, 3]], &[[0, 3]])],
     },
     Step {
         label: 2,
@@ -85,11 +77,7 @@ const OVER_AND_BACK: [Step; 6] = [
         withdrawn: 0,
         messages: &[[0, 2, 1, 1], [0, 4, 2, 2]],
         unmatched: 0,
-        unclear: &[Unclear {
-            key: "n",
-            sends: &[[0, 5], [1, 3], [2, 1]],
-            receives: &[[0, 3]],
-        }],
+        unclear: &[("n", &[[0, 5], [1, 3], [2, 1]], &[[0, 3]])],
     },
     Step {
         label: 0,
@@ -98,11 +86,7 @@ const OVER_AND_BACK: [Step; 6] = [
         withdrawn: 0,
         messages: &[[0, 2, 1, 1], [0, 4, 2, 2]],
         unmatched: 0,
-        unclear: &[Unclear {
-            key: "n",
-            sends: &[[0, 5], [1, 3], [2, 1]],
-            receives: &[[0, 3]],
-        }],
+        unclear: &[("n", &[[0, 5], [1, 3], [2, 1]], &[[0, 3]])],
     },
 ];
 
@@ -124,11 +108,7 @@ const AT_ONCE: [Step; 4] = [
         withdrawn: 1,
         messages: &[[2, 2, 1, 3], [2, 3, 1, 1]],
         unmatched: 0,
-        unclear: &[Unclear {
-            key: "a",
-            sends: &[[2, 1]],
-            receives: &[[1, 2], [2, 4]],
-        }],
+        unclear: &[("a", &[[2, 1]], &[[1, 2], [2, 4]])],
     },
     Step {
         label: 1,
@@ -138,16 +118,8 @@ const AT_ONCE: [Step; 4] = [
         messages: &[[2, 2, 1, 3], [2, 3, 1, 1]],
         unmatched: 0,
         unclear: &[
-            Unclear {
-                key: "a",
-                sends: &[[2, 1]],
-                receives: &[[1, 2], [2, 4]],
-            },
-            Unclear {
-                key: "d",
-                sends: &[[1, 4]],
-                receives: &[[1, 5], [1, 6]],
-            },
+            ("a", &[[2, 1]], &[[1, 2], [2, 4]]),
+            ("d", &[[1, 4]], &[[1, 5], [1, 6]]),
         ],
     },
     Step {
@@ -164,26 +136,10 @@ const AT_ONCE: [Step; 4] = [
         messages: &[[0, 3, 0, 4]],
         unmatched: 0,
         unclear: &[
-            Unclear {
-                key: "c",
-                sends: &[[0, 1], [2, 3]],
-                receives: &[[1, 1]],
-            },
-            Unclear {
-                key: "b",
-                sends: &[[2, 2]],
-                receives: &[[0, 2], [1, 3]],
-            },
-            Unclear {
-                key: "a",
-                sends: &[[0, 5], [2, 1]],
-                receives: &[[1, 2], [2, 4]],
-            },
-            Unclear {
-                key: "d",
-                sends: &[[1, 4]],
-                receives: &[[1, 5], [1, 6]],
-            },
+            ("c", &[[0, 1], [2, 3]], &[[1, 1]]),
+            ("b", &[[2, 2]], &[[0, 2], [1, 3]]),
+            ("a", &[[0, 5], [2, 1]], &[[1, 2], [2, 4]]),
+            ("d", &[[1, 4]], &[[1, 5], [1, 6]]),
         ],
     },
 ];
@@ -224,11 +180,7 @@ const APART: [Step; 4] = [
         withdrawn: 1,
         messages: &[[0, 1, 1, 2], [0, 3, 2, 2], [1, 3, 2, 5], [2, 3, 1, 1]],
         unmatched: 0,
-        unclear: &[Unclear {
-            key: "/a",
-            sends: &[[2, 1]],
-            receives: &[[0, 2], [2, 4]],
-        }],
+        unclear: &[("/a", &[[2, 1]], &[[0, 2], [2, 4]])],
     },
 ];
 
@@ -251,11 +203,7 @@ const IN_A_ROW: [Step; 4] = [
         withdrawn: 0,
         messages: &[],
         unmatched: 0,
-        unclear: &[Unclear {
-            key: "m@0",
-            sends: &[[1, 1]],
-            receives: &[[0, 1], [1, 2]],
-        }],
+        unclear: &[("m@0", &[[1, 1]], &[[0, 1], [1, 2]])],
     },
     Step {
         label: 2,
@@ -264,11 +212,7 @@ const IN_A_ROW: [Step; 4] = [
         withdrawn: 0,
         messages: &[[2, 2, 2, 1]],
         unmatched: 0,
-        unclear: &[Unclear {
-            key: "m@0",
-            sends: &[[1, 1]],
-            receives: &[[0, 1], [1, 2]],
-        }],
+        unclear: &[("m@0", &[[1, 1]], &[[0, 1], [1, 2]])],
     },
     // Where no time is told, the key is another one.
     Step {
@@ -278,16 +222,12 @@ const IN_A_ROW: [Step; 4] = [
         withdrawn: 0,
         messages: &[[2, 2, 2, 1]],
         unmatched: 1,
-        unclear: &[Unclear {
-            key: "m@0",
-            sends: &[[1, 1]],
-            receives: &[[0, 1], [1, 2]],
-        }],
+        unclear: &[("m@0", &[[1, 1]], &[[0, 1], [1, 2]])],
     },
 ];
 
-// Two groups of one key: one of three events, which is ambiguous, and one that is a message. An event may have happened before
-// those that came earlier, and the group then has another beginning.
+// Two groups of one key: one of three events, which is ambiguous, and one that is a message. An event may have happened
+// before those that came earlier, and the group then has another beginning.
 const TWO_GROUPS: [Step; 2] = [
     Step {
         label: 1,
@@ -303,11 +243,7 @@ const TWO_GROUPS: [Step; 2] = [
         withdrawn: 0,
         messages: &[[1, 4, 1, 5]],
         unmatched: 1,
-        unclear: &[Unclear {
-            key: "m@-38",
-            sends: &[[1, 1], [1, 3]],
-            receives: &[[1, 2]],
-        }],
+        unclear: &[("m@-38", &[[1, 1], [1, 3]], &[[1, 2]])],
     },
     Step {
         label: 0,
@@ -317,21 +253,14 @@ const TWO_GROUPS: [Step; 2] = [
         messages: &[[1, 4, 1, 5]],
         unmatched: 0,
         unclear: &[
-            Unclear {
-                key: "m@-38",
-                sends: &[[1, 1], [1, 3]],
-                receives: &[[1, 2]],
-            },
-            Unclear {
-                key: "n@-26",
-                sends: &[[0, 1], [0, 2]],
-                receives: &[[1, 6]],
-            },
+            ("m@-38", &[[1, 1], [1, 3]], &[[1, 2]]),
+            ("n@-26", &[[0, 1], [0, 2]], &[[1, 6]]),
         ],
     },
 ];
 
-// An event that joins two groups withdraws both of their messages; one that lies just the window behind another is of its group.
+// An event that joins two groups withdraws both of their messages; one that lies just the window behind another is of
+// its group.
 const WITHDRAWN: [Step; 3] = [
     Step {
         label: 2,
@@ -354,11 +283,7 @@ const WITHDRAWN: [Step; 3] = [
         withdrawn: 2,
         messages: &[],
         unmatched: 1,
-        unclear: &[Unclear {
-            key: "m@0",
-            sends: &[[0, 1], [2, 1], [2, 4]],
-            receives: &[[2, 2], [2, 3]],
-        }],
+        unclear: &[("m@0", &[[0, 1], [2, 1], [2, 4]], &[[2, 2], [2, 3]])],
     },
     Step {
         label: 1,
@@ -367,11 +292,7 @@ const WITHDRAWN: [Step; 3] = [
         withdrawn: 0,
         messages: &[[1, 1, 0, 2]],
         unmatched: 0,
-        unclear: &[Unclear {
-            key: "m@0",
-            sends: &[[0, 1], [2, 1], [2, 4]],
-            receives: &[[2, 2], [2, 3]],
-        }],
+        unclear: &[("m@0", &[[0, 1], [2, 1], [2, 4]], &[[2, 2], [2, 3]])],
     },
 ];
 
@@ -468,11 +389,12 @@ fn are_events(roster: &Roster, found: &[u32], wanted: &[[u32; 2]]) -> bool {
 }
 
 fn is_unclear(roster: &Roster, found: &Group, wanted: &Unclear) -> bool {
-    match key_with(wanted.key) {
+    let (key, sends, receives) = *wanted;
+    match key_with(key) {
         Some(key) => {
             found.key == key
-                && are_events(roster, &found.sends, wanted.sends)
-                && are_events(roster, &found.receives, wanted.receives)
+                && are_events(roster, &found.sends, sends)
+                && are_events(roster, &found.receives, receives)
         }
         None => false,
     }
@@ -499,9 +421,9 @@ fn are_unclear(roster: &Roster, matcher: &Matcher, wanted: &[Unclear]) -> bool {
 // How many events have these keys, up to some thousands.
 fn unclear_events(keys: &[Unclear]) -> usize {
     let mut events: usize = 0;
-    for key in keys {
-        events = events.saturating_add(key.sends.len());
-        events = events.saturating_add(key.receives.len());
+    for (_, sends, receives) in keys {
+        events = events.saturating_add(sends.len());
+        events = events.saturating_add(receives.len());
     }
     events
 }

@@ -1,11 +1,12 @@
 //! Tests of traces, from their bytes to the problem that they make, each by public calls.
 //!
-//! `logs` has rows of logs (`event_log`); `declarations` what is declared, and its faults, and `declared_clocks` the same of
-//! hosts with several clocks (`decl`); `frames` the headers of packets (`headers`); `capture_pieces` the packets of a capture
-//! that comes in pieces (`captures`); `events` what is seen of rows and packets (`traces`); `labels` the events and
-//! messages under labels (`traces`); `matches` sends and receives of a key (`msg_match`); `labelled_matches` those under labels
-//! (`msg_match`); `problems` the problem that is made (`reference_traces`); `rosters` what is listed of events that come
-//! (`roster`); `tcp_options` the options of segments (`headers`); `fixtures` has what several of them use.
+//! `logs` has rows of logs (`event_log`); `declarations` what is declared, and its faults, and `declared_clocks` the
+//! same of hosts with several clocks (`decl`); `frames` the headers of packets (`headers`); `capture_pieces` the
+//! packets of a capture that comes in pieces (`captures`); `events` what is seen of rows and packets (`traces`);
+//! `labels` the events and messages under labels (`traces`); `matches` sends and receives of a key (`msg_match`);
+//! `labelled_matches` those under labels (`msg_match`); `problems` the problem that is made (`reference_traces`);
+//! `rosters` what is listed of events that come (`roster`); `tcp_options` the options of segments (`headers`);
+//! `fixtures` has what several of them use.
 #![tactic(auto)]
 
 #[cfg(test)]

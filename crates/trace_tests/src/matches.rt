@@ -114,8 +114,8 @@ const THREE_KEYS: [Step; 3] = [
     },
 ];
 
-// Two groups of one key, each with a message; then an event that joins them, which withdraws both. Events of another key stay
-// apart where their clocks disagree by more than the window.
+// Two groups of one key, each with a message; then an event that joins them, which withdraws both. Events of another
+// key stay apart where their clocks disagree by more than the window.
 const IN_TIME: [Step; 3] = [
     Step {
         events: &[

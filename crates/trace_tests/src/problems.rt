@@ -63,8 +63,8 @@ const CASES: [([&str; 3], &str); 6] = [
     ),
 ];
 
-// The same labels: p at the host b, which has two clocks, on its first one; q on the last clock of the host a, which comes back to
-// the first one's numbers, and r on its second one. Nothing is on the first clock of a.
+// The same labels: p at the host b, which has two clocks, on its first one; q on the last clock of the host a, which
+// comes back to the first one's numbers, and r on its second one. Nothing is on the first clock of a.
 const STEPPED_DECLARATION: &str = "[hosts.a]\nshort = 10\nlong = 20\nearly = 1\nlate = 2\n\
     clocks = [{ name = \"z\", gap = 9 }, { name = \"a\", short = 0 }, { name = \"y\", gap = 7 }]\n\
     [hosts.b]\nclocks = [{ name = \"b\" }, { name = \"c\", gap = 4611686018427387903 }]\n\
@@ -72,8 +72,8 @@ const STEPPED_DECLARATION: &str = "[hosts.a]\nshort = 10\nlong = 20\nearly = 1\n
     [labels.r]\nhost = \"a\"\nkind = \"log\"\nclock = \"a\"\n\
     [[links]]\nfrom = \"a\"\nto = \"b\"\nleast = 10\nmost = 20\n[[links]]\nfrom = \"a\"\nto = \"a\"\nleast = 1\nmost = 2\n";
 
-// Each two neighbouring clocks of a host follow each other, events stand on the clocks of their labels, and the bounds of messages
-// are those of hosts, whichever their clocks are.
+// Each two neighbouring clocks of a host follow each other, events stand on the clocks of their labels, and the bounds
+// of messages are those of hosts, whichever their clocks are.
 const STEPPED: [([&str; 3], &str); 2] = [
     (
         ["", "", ""],
