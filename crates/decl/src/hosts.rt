@@ -95,7 +95,8 @@ fn read_addresses(host: u32, table: &Table, books: &mut Books) -> Result<bool, A
         .add_all(IpVersion::V6, host, items_or_none(table, "addresses6"))
 }
 
-// Reads the table of the host with this index and name. Its addresses and clocks go into the books, behind those of hosts before.
+// Reads the table of the host with this index and name. Its addresses and clocks go into the books, behind those of
+// hosts before.
 fn read_table(
     index: u32,
     name: &str,

@@ -21,15 +21,16 @@
 //! | trace | `host`: a host's name; `kind`: `capture` or `log`. It has both. `clock`: the name of the host's clock that it was stamped by, its first one where it is not there |
 //! | link | `from` and `to`: hosts' names, which may be the same. It has both. `least` and `most`, in ns below 2^62: 0 and no limit where they are not there |
 //!
-//! A host without tables of clocks has one clock, of its own name and numbers. Names of hosts, clocks and traces are clock names, no two
-//! clocks have the same one, no address stands there twice under the same key, no pair of hosts stands there twice, and of hosts,
-//! clocks, traces and links there are at most 65,536 each. Hosts and traces go by the byte order of their names, clocks by their
-//! hosts and then as they were written.
+//! A host without tables of clocks has one clock, of its own name and numbers. Names of hosts, clocks and traces are
+//! clock names, no two clocks have the same one, no address stands there twice under the same key, no pair of hosts
+//! stands there twice, and of hosts, clocks, traces and links there are at most 65,536 each. Hosts and traces go by the
+//! byte order of their names, clocks by their hosts and then as they were written.
 //!
-//! A declaration that is refused is looked through in this order: its size; whether it is a document; its own keys, their
-//! values' shapes, their numbers; then host by host, trace by trace and link by link; at last the source. A host is looked through
-//! by table, keys, shapes of values, name, numbers and its index, addresses, and then clock by clock, each by table, keys,
-//! shapes, name, numbers and how many clocks there are; a trace and a link by table, keys, shapes, names, numbers and its index.
+//! A declaration that is refused is looked through in this order: its size; whether it is a document; its own keys,
+//! their values' shapes, their numbers; then host by host, trace by trace and link by link; at last the source. A host
+//! is looked through by table, keys, shapes of values, name, numbers and its index, addresses, and then clock by clock,
+//! each by table, keys, shapes, name, numbers and how many clocks there are; a trace and a link by table, keys, shapes,
+//! names, numbers and its index.
 #![tactic(auto)]
 
 mod addresses;

@@ -37,8 +37,8 @@ impl Decl {
         self.links.bounds_of(from, to)
     }
 
-    /// The place of the label of this name, from 0 on; None exactly where no label has it. Condition: labels stand in the byte
-    /// order of their names, as those of each declaration that was read do.
+    /// The place of the label of this name, from 0 on; None exactly where no label has it. Condition: labels stand in
+    /// the byte order of their names, as those of each declaration that was read do.
     pub fn label_at(&self, name: &[u8]) -> Option<usize>
         requires { HasLawfulLabels (declaration_of self.now) }
         ensures { result ≡ position (λ label. bytes_eq label.name name.now) self.now.labels.items }

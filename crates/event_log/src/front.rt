@@ -98,7 +98,8 @@ impl Progress {
     }
 }
 
-// How many bytes of a text there are up to the end of the first fourth field behind which a fifth one begins; all, if there is none.
+// How many bytes of a text there are up to the end of the first fourth field behind which a fifth one begins; all, if
+// there is none.
 fn before_fifth(text: &[u8]) -> usize
     ensures within { result ≤ length text.now }
     ensures front { IsFrontOfRecords (records default_config text.now) (records default_config (take result text.now)) }

@@ -37,9 +37,9 @@ fn write_records<O: Sink>(kept: &[Stored], out: &mut O) -> Result<(), Failed>
 /// original length stands how many bytes were captured.
 ///
 /// All packets have one link type, each time has a record (`ArrangeError::Range`), and each packet has at most 262,144
-/// bytes. It takes no memory. Read as a capture, the whole of it says these packets with these stamps, in their order, and nothing is
-/// left. `Failed` comes only where the sink's count of faults rose, or stands at its last value; a front of the capture is
-/// then written.
+/// bytes. It takes no memory. Read as a capture, the whole of it says these packets with these stamps, in their order,
+/// and nothing is left. `Failed` comes only where the sink's count of faults rose, or stands at its last value; a front
+/// of the capture is then written.
 pub fn write_capture<O: Sink>(kept: &[Stored], out: &mut O) -> Result<(), Failed>
     requires writable { AreWritable (all_timed kept.now) }
     requires short { All IsShort (all_timed kept.now) }

@@ -8,9 +8,9 @@ ghost use Rattle.traces.specs.declared.event_id.EventId.{EventId};
 ghost use Rattle.traces.specs.Traces.{event_count};
 ghost use Rattle.msg_match.specs.Ends.{AreChanges, AreEndsBy, ids_from, items_from};
 
-/// A law, which does nothing when it runs: where there are no events there are no ends of messages; with events that are
-/// added to those of a label, and numbered behind all, their ends are added; there are no more ends than events; and what changes
-/// by numbers among such ends changes so by the names of the events, where no two have one name.
+/// A law, which does nothing when it runs: where there are no events there are no ends of messages; with events that
+/// are added to those of a label, and numbered behind all, their ends are added; there are no more ends than events;
+/// and what changes by numbers among such ends changes so by the names of the events, where no two have one name.
 pub fn ends_grow()
     ensures none { (seen : List (List Seen)) → All (λ events. events ≡ []) seen → AreEndsBy [] [] seen }
     ensures grow { (seen : List (List Seen)) (label : ℕ) (old more : List Seen) (ids : List EventId) (items : List SeenItem) → slice_get seen label ≡ Some old → AreEndsBy ids items seen

@@ -19,8 +19,8 @@ fn push_end(items: &mut Vec<Item>, number: u32, mark: &Mark) -> Result<(), Alloc
     Ok(())
 }
 
-/// The ends of messages among events that have the numbers from `first` on; an error where memory runs out. The number behind
-/// the last event is below 2^32.
+/// The ends of messages among events that have the numbers from `first` on; an error where memory runs out. The number
+/// behind the last event is below 2^32.
 pub fn items_of(alloc: Global, first: u32, events: &[Event]) -> Result<Vec<Item>, AllocError>
     requires { first + length events.now < 2 ^ 32 }
     ensures { IfOk result (λ items. seen_items items.items ≡ items_from first (seen_events events.now)) }

@@ -13,8 +13,9 @@ pub enum PcapError {
     /// The version is another than 2.4.
     #[error("a version other than 2.4")]
     Version,
-    /// At this place, in bytes from the start of the capture, the 16 bytes of a record's head begin with the magic number and
-    /// the version of the capture itself: a second file header, as where two captures were put one behind the other.
+    /// At this place, in bytes from the start of the capture, the 16 bytes of a record's head begin with the magic
+    /// number and the version of the capture itself: a second file header, as where two captures were put one behind
+    /// the other.
     #[error("a second file header at byte {0}")]
     Header(u32),
     /// The record at this place, in bytes from the start of the capture, says that more than 262,144 bytes were captured,

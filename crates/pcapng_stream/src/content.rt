@@ -134,8 +134,9 @@ fn add_packet(
     Ok(())
 }
 
-/// Takes a whole block, which stands at this place of a capture: a section header begins a section, an interface and a packet
-/// are added, statistics tell how many packets were dropped, and any other block is skipped. An error comes with its first flaw, or where memory runs out.
+/// Takes a whole block, which stands at this place of a capture: a section header begins a section, an interface and a
+/// packet are added, statistics tell how many packets were dropped, and any other block is skipped. An error comes with
+/// its first flaw, or where memory runs out.
 pub(crate) fn take_block(
     alloc: Global,
     place: u32,

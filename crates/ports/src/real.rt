@@ -5,7 +5,8 @@ use crate::again::{read_again, write_again};
 use crate::{Failed, Sink, Source};
 use std::io::{Read, Write};
 
-/// A writer of the host, as the standard output. What was written is not told. A write that a signal interrupted is made again.
+/// A writer of the host, as the standard output. What was written is not told. A write that a signal interrupted is
+/// made again.
 #[derive(Drop)]
 pub struct StdSink<W: Write + Drop> {
     writer: W,

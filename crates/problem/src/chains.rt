@@ -78,8 +78,8 @@ fn size_of(links: &[Link], clock: u32) -> u32
     links[number as usize].size
 }
 
-// Gives the clocks of two chains one number, that of the longer chain, and counts them there. The last clock of the one chain
-// and the first clock of the other tell which they are. It takes one step for each clock of the shorter chain.
+// Gives the clocks of two chains one number, that of the longer chain, and counts them there. The last clock of the one
+// chain and the first clock of the other tell which they are. It takes one step for each clock of the shorter chain.
 fn merge(links: &mut [Link], last: u32, first: u32)
     requires few { length links.old < 2 ^ 32 }
     requires inside { (last < length links.old) × (first < length links.old) }
@@ -103,8 +103,8 @@ fn merge(links: &mut [Link], last: u32, first: u32)
     }
 }
 
-/// Takes a new follow in: both of its clocks know it, and the clocks of the shorter one of their two chains get the number of
-/// the longer one.
+/// Takes a new follow in: both of its clocks know it, and the clocks of the shorter one of their two chains get the
+/// number of the longer one.
 pub fn join(links: &mut [Link], f: &Follow)
     requires { (p : ProblemLists) × IsProblem p × AreLinks p links.old × IsNewFollow p f.now }
     ensures { (p : ProblemLists) → IsProblem p → AreLinks p links.old → IsNewFollow p f.now → AreLinks (with_follow p f.now) links.new }

@@ -39,7 +39,8 @@ fn last_before(items: &Items, readings: &[(u32, Nano)], later: u32) -> Option<(u
     None
 }
 
-/// The bound that the nearest reading before a clock and the clock's first reading make. The readings are those of the items.
+/// The bound that the nearest reading before a clock and the clock's first reading make. The readings are those of the
+/// items.
 pub fn nearest_follow(items: &Items, readings: &[(u32, Nano)], later: u32) -> Option<NearestFollow>
     requires { AreReadings items.now readings.now }
     ensures bound { follow_bound (nearest_reading readings.now (clocks_before items.now.follows later later)) (first_reading readings.now later) ≡ listed_follow later result }

@@ -163,8 +163,8 @@ impl Problem {
     }
 
     /// The bound that the nearest reading before a clock and the clock's first reading make, with the gap of the follow
-    /// that leads to the clock, whose place is that of a clock; None where the clock has no reading, or no clock before it in
-    /// its chain has one. It looks at the clocks from there to the nearest one that has a reading.
+    /// that leads to the clock, whose place is that of a clock; None where the clock has no reading, or no clock before
+    /// it in its chain has one. It looks at the clocks from there to the nearest one that has a reading.
     pub fn nearest_follow(&self, later: u32) -> Option<NearestFollow>
         requires { later < length self.now.clocks }
         ensures bound { (readings : List Reading) → AreReadings self.now readings

@@ -82,7 +82,8 @@ pub fn rows()
         → IsUnbounded nodes arcs p q }
 {}
 
-/// A closed row along the reversed arcs and an execution give the least differences from its node, and an execution that attains them all.
+/// A closed row along the reversed arcs and an execution give the least differences from its node, and an execution
+/// that attains them all.
 pub fn rows_towards()
     ensures lead { (nodes p : ℕ) (known : ℕ → Bool) (least : ℕ → ℤ) (xs : List ℤ)
         → p < nodes → known p ≡ true
@@ -128,7 +129,8 @@ pub fn reversals()
     ensures same_sum { (steps : List Arc) → sum_of (walked_back steps) ≡ sum_of steps }
 {}
 
-/// There is one earliest execution at most; it begins and grows with 0, and its values are at most the number of nodes times the greatest weight.
+/// There is one earliest execution at most; it begins and grows with 0, and its values are at most the number of nodes
+/// times the greatest weight.
 pub fn earliest()
     ensures one { (nodes : ℕ) (arcs : List Arc) (xs ys : List ℤ) → IsEarliest nodes arcs xs → IsEarliest nodes arcs ys → xs ≡ ys }
     ensures no_arcs { (nodes : ℕ) (xs : List ℤ) → length xs ≡ nodes → ((k : ℕ) → at xs k ≡ pos 0) → IsEarliest nodes [] xs }

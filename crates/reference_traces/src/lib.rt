@@ -1,6 +1,6 @@
-//! What traces come to, in the plainest way: their messages by filters over all events, and their problem as a whole. It is what
-//! tests compare with, and nothing else stands on it. `Additions` is what such tests add events to: a roster and an index of
-//! messages, as a session keeps them, with the events of each label beside.
+//! What traces come to, in the plainest way: their messages by filters over all events, and their problem as a whole.
+//! It is what tests compare with, and nothing else stands on it. `Additions` is what such tests add events to: a roster
+//! and an index of messages, as a session keeps them, with the events of each label beside.
 #![tactic(auto)]
 
 mod additions;

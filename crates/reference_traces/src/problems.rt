@@ -46,9 +46,10 @@ fn problem_by(
     Ok(p)
 }
 
-/// The problem of a declaration and of what was accepted under each of its labels: the clocks of all hosts, a follow for each
-/// two neighbouring clocks of a host, the events of all labels on the clocks of their labels, and their messages, which are
-/// given in the order of their sends, with the bounds of the links between the hosts. An error where memory runs out.
+/// The problem of a declaration and of what was accepted under each of its labels: the clocks of all hosts, a follow
+/// for each two neighbouring clocks of a host, the events of all labels on the clocks of their labels, and their
+/// messages, which are given in the order of their sends, with the bounds of the links between the hosts. An error
+/// where memory runs out.
 pub fn problem_of(
     alloc: Global,
     decl: &Decl,

@@ -81,8 +81,8 @@ impl Kept {
         self.present = false;
     }
 
-    /// Makes the room, in which withdrawn arcs are worked off, that for at least so many nodes. No slot and no row is changed.
-    /// An `Err` comes only if memory does not suffice, and then all is as before.
+    /// Makes the room, in which withdrawn arcs are worked off, that for at least so many nodes. No slot and no row is
+    /// changed. An `Err` comes only if memory does not suffice, and then all is as before.
     pub fn reserve(&mut self, nodes: u32) -> Result<(), AllocError>
         requires { nodes ≤ most_nodes }
         ensures ok { OnOk result (self.new ≡ with_room self.old (max self.old.room nodes)) }

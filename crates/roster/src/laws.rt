@@ -8,8 +8,8 @@ ghost use Rattle.traces.specs.Messages.{problem_of_seen};
 ghost use Rattle.roster.specs.declared.came.Partner.{Partner};
 ghost use Rattle.roster.specs.Roster.{RosterLists, IsRoster, HoldsEvents, IsGrown, SetsReading, event_at, listed};
 
-/// A law, which does nothing when it runs: a roster that holds the events of each label lists the problem that they make with
-/// its declaration.
+/// A law, which does nothing when it runs: a roster that holds the events of each label lists the problem that they
+/// make with its declaration.
 pub fn roster_lists_its_problem()
     ensures { (r : RosterLists) (seen : List (List Seen)) (readings : List Reading) → IsRoster r → HoldsEvents r seen → AreReadings (problem_of_seen r.declaration seen) readings → IsListedBy (listed r) (problem_of_seen r.declaration seen) readings }
 {}

@@ -35,7 +35,7 @@ pub data MessageKey : Type 0 where
   Packet : PacketKey → MessageKey
   Word : List ℕ → MessageKey
 
--- when an event happened, and how far apart neighbouring events of one message may be, both in ns: the time is the event's
+-- when an event happened, and how far apart neighbouring events of one key may be, both in ns: the time is the event's
 -- stamp less the offset of its clock
 pub record SeenMoment : Type 0 where
   pub time : ℤ

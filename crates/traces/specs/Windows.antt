@@ -21,7 +21,7 @@ is_alike a b = is_same_message a.message b.message && is_same_window a.moment b.
 abbrev pub time_in : EventKey → List ℤ
 time_in key = option_to_list (option_map (λ (m : SeenMoment). m.time) key.moment)
 
--- the same, if the key is like another one
+-- when the event of the other key happened, if that key is like this one
 abbrev pub time_with : EventKey → EventKey → List ℤ
 time_with key other = if is_alike key other then time_in other else []
 

@@ -26,7 +26,7 @@ pub enum MessageKey {
 pub struct Moment {
     /// The event's stamp less the offset of its clock, in ns: above -2^62 and below 2^63.
     pub time: i64,
-    /// How far apart neighbouring events of one message lie at most so that they belong together, in ns below 2^62.
+    /// How far apart neighbouring events of one key lie at most so that they belong together, in ns below 2^62.
     pub window: u64,
 }
 

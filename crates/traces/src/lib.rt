@@ -1,7 +1,7 @@
 //! The events of traces: rows of event logs and packets of captures, what each is known by at both ends of a message,
 //! and what was accepted under the labels of a declaration: the events of all labels with their names, the messages
-//! among them, and that their problem is lawful. Where a window is declared, events of one key that lie far apart in time are
-//! of different messages.
+//! among them, and that their problem is lawful. Where a window is declared, events of one key that lie far apart in
+//! time are of different messages.
 #![tactic(auto)]
 
 mod accepted;
