@@ -21,7 +21,7 @@ interval from a send to each receive of it has the real time between them. With 
 fragment, and each datagram behind extension headers. Where keys come again each datagram of which each capture has one
 record is a message if these lie within the `window`, and without one next to none is. Two exchanged records, false
 stamps, and an `offset` that is false by the time between two uses of a key have to be found out, else this test could
-not fail.
+not fail; of one that is false by half of that time `report` has to say that keys stand `alone`.
 
 What is assumed: a segment is sent again a tick of its timestamps later, 1 ms, since the box holds each frame longer;
 and datagrams differ in their first eight bytes, but for those whose keys come again: of these the box hands on each
@@ -150,6 +150,7 @@ class Found:
     ambiguous: Counter[str] = field(default_factory=Counter)
     contradictions: int = 0
     outside: int = 0
+    alone: int = 0
 
     def add(self, other: "Found") -> None:
         for name in COUNTS:
@@ -356,7 +357,9 @@ def judge(folder: str, captures: Captures, words: Words, ahead: int = 0) -> Foun
         found.messages[kinds[send]] += 1
         if records[send].packet != records[receive].packet:
             found.false[kinds[send]] += 1
-    for it in json.loads(report[0])["ambiguous"]:
+    reported = json.loads(report[0])
+    found.alone = reported.get("alone", 0)
+    for it in reported["ambiguous"]:
         found.ambiguous.update(kinds[name] for name in it["sends"] + it["receives"])
     found.contradictions = int(not added[0].endswith(" consistent"))
     truths = [records[receive].time - records[send].time for send, receive in pairs]
@@ -390,14 +393,18 @@ def missed(folder: str, captures: Captures) -> list[str]:
 
 
 def missed_again(folder: str, captures: Captures) -> list[str]:
-    """Wants an offset that is false by the time from a datagram to the next one of its key to be found out."""
+    """Wants an offset that is false by the time from a datagram to the next one of its key to be found out, and one
+    that is false by half of it to leave keys alone."""
     uses: dict[bytes, list[int]] = {}
     for it in captures["a"]:
         if it.is_send:
             uses.setdefault(it.frame[18:20], []).append(it.time)
     first, second = max(uses.values(), key=len)[:2]
-    found = judge(folder, captures, Words.WINDOW, about(captures) + second - first)
-    return [] if found.false else ["not found out: a false offset"]
+    found, half = (judge(folder, captures, Words.WINDOW, about(captures) + (second - first) // it) for it in (1, 2))
+    wrong = [] if found.false else ["not found out: a false offset"]
+    if half.messages[AGAIN] or not half.alone:
+        wrong.append(f"of an offset that is false by half: {half.messages[AGAIN]} messages, {half.alone} keys alone")
+    return wrong
 
 
 def show(case: Case, words: Words, found: Found) -> None:

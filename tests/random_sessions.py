@@ -10,11 +10,12 @@ a window, and offsets that are about true or not. Rows come late, with lower sta
 declared bounds, and with keys that were sent or received before, which withdraws messages; events are kept in between.
 Behind each addition the problem must be the one that a plain model of the session has, and what is asked must follow
 from its text: intervals, orders, times and merges as support/problems.py works them out, and, one of each, as `ends`
-and `solve` print them; certificates must be accepted by `verify`, and cycles also by check_cycle.py.
+and `solve` print them; `blame` is `blame none` where the problem has an execution, and else what the command `blame`
+prints of the text; certificates must be accepted by `verify`, and cycles also by check_cycle.py.
 
 PROGRAM names the program whose sessions are tried, else it is the one that is built here; PATH is another one for
-`ends`, `solve` and `verify`. The files of a session that goes wrong stay in tests/out/session-N, and its first wrong
-reply is printed; then the status is 1.
+`ends`, `solve`, `blame` and `verify`. The files of a session that goes wrong stay in tests/out/session-N, and its first
+wrong reply is printed; then the status is 1.
 """
 
 import argparse
@@ -306,12 +307,23 @@ class Held:
             lines.append(f"message {send} {receive} {least} {'none' if most is None else most}")
         return [*lines, "end"]
 
+    def alone(self) -> dict[str, int]:
+        """How many keys have sends and receives, and no group with both, where there is a window."""
+        if self.declared.window is None:
+            return {}
+        kinds: dict[str, set[str]] = {}
+        for _, _, (_, kind, key, _) in self.events():
+            kinds.setdefault(key, set()).add(kind)
+        both = {key for key, its in kinds.items() if {"send", "receive"} <= its}
+        return {"alone": len(both - {key for key, sends, receives in self.groups() if sends and receives})}
+
     def report(self, consistent: bool) -> dict[str, Any]:
         """The object that `report` prints."""
         groups = self.groups()
         ambiguous = [it for it in groups if it[1] and it[2] and len(it[1]) + len(it[2]) > 2]
         local = sum(row[1] == "local" for _, _, row in self.events())
         return {
+            **self.alone(),
             "ambiguous": [
                 {"key": f"log {key}", "receives": receives, "sends": sends} for key, sends, receives in ambiguous
             ],
@@ -363,12 +375,14 @@ class State:
         """Compares the reply to a question, which stands in this line.
 
         Raises AssertionError where it is another one."""
-        refusal = None if command in ("problem", "report") else self.refusal(command, events)
+        refusal = None if command in ("problem", "report", "blame") else self.refusal(command, events)
         if command == "problem":
             want(line, reply, self.lines)
         elif command == "report":
             report = self.held.report(self.earliest is not None)
             want(line, reply, [json.dumps(report, separators=(",", ":"))])
+        elif command == "blame":
+            want(line, reply, ["blame none"] if self.earliest is not None else self.judged("blame"))
         elif refusal:
             want(line, reply, [refusal])
         elif self.earliest is None:
@@ -454,7 +468,7 @@ def questions(draw: Random, names: list[str], kept: list[str]) -> list[str]:
         pairs += [(chosen, name) for name in names]
     lines = [f"{draw.choice(('interval', 'interval', 'order'))} {one} {other}" for one, other in pairs]
     lines += [f"prove {one} {other}" for one, other in draw.sample(pairs, 2)]
-    lines += [f"time {draw.choice(names)}" for _ in range(3)] + ["merge", "report"]
+    lines += [f"time {draw.choice(names)}" for _ in range(3)] + ["merge", "report", "blame"]
     return draw.sample(lines, draw.randint(1, len(lines)))
 
 
@@ -536,7 +550,7 @@ def leave(number: int, folder: str, why: Exception) -> None:
 
 def main() -> int:
     parser = argparse.ArgumentParser(description=__doc__.split("\n\n")[0])
-    parser.add_argument("--judge", metavar="PATH", help="another program for `ends`, `solve` and `verify`")
+    parser.add_argument("--judge", metavar="PATH", help="another program for `ends`, `solve`, `blame` and `verify`")
     parser.add_argument("sessions", metavar="SESSIONS", nargs="?", type=int, default=200, help="how many sessions; 200")
     parser.add_argument("seed", metavar="SEED", nargs="?", type=int, default=1, help="the number of the first; 1")
     said = parser.parse_args()

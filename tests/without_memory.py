@@ -36,16 +36,17 @@ COMMANDS: list[tuple[list[str], str | None]] = [
     (["verify", "examples/first-hour/problem.txt", "examples/first-hour/run.cert"], None),
     (["verify", "examples/first-hour/contradiction.txt", "examples/first-hour/cycle.cert"], None),
     (["verify", "examples/first-hour/problem.txt", "examples/first-hour/ends.cert"], None),
+    (["blame", "examples/first-hour/contradiction.txt"], None),
     (["session", "examples/session/hosts.toml"], "examples/session/script.txt"),
     (["session", "examples/session/hosts.toml"], "examples/session/healed.txt"),
     (["session", "examples/captures/hosts.toml"], "examples/captures/script.txt"),
 ]
 
 
-QUESTIONS = ["interval a#1 b#1", "order a#1 b#1", "merge", "problem", "prove a#1 b#1", "report", "time a#1"]
+QUESTIONS = ["interval a#1 b#1", "order a#1 b#1", "merge", "problem", "prove a#1 b#1", "report", "time a#1", "blame"]
 CLOCK_QUESTIONS = [
     "interval before#1 after#1", "order before#3 after#2", "merge", "problem", "prove before#3 after#1", "report",
-    "time after#3",
+    "time after#3", "blame",
 ]  # fmt: skip
 
 Files = dict[str, bytes]  # the files of a session by their names

@@ -46,15 +46,26 @@ BLAMES = """blame delays none
 blame least none
 blame stamps 24 ns
 blame rates 1000000000 ppb
+blame gaps 5 ns
 blame stamps a1 4611686018427387903 ns
 blame rates a1 none
 blame stamps none none
 blame rates none 1 ppb
+blame delays a1 none none
+blame least a1 none 3 ns
+blame delays a2 a1 7 ns
+blame least a2 a1 none
+end"""
+WIDENING = """widening 1
+least {}
+event a#1 0.000000000
+cycle
 end"""
 REPORT = '{"ambiguous":[],"consistent":true,"events":0,"messages":0,"nokey":{"local":0},"unmatched":0}'
 REPLIES: Dict[str, str] = {
     "report": REPORT,
     "problem": PROBLEM,
+    "blame": BLAMES,
     "add a a.csv": "added events 2 messages 0 withdrawn 0 pending 0 consistent",
     "add b b.csv": "added events 1 messages 1 withdrawn 0 pending 7 inconsistent",
     "add b c.pcapng": "added events 1 messages 0 withdrawn 1 pending 0 passed 5 consistent",
@@ -79,7 +90,7 @@ PROGRAM = f"""#!{sys.executable} -IB
 import os, sys, time
 REPLIES = {REPLIES!r}
 STAND_IN = os.environ.get("STAND_IN")
-if sys.argv[1] == "blame":
+if sys.argv[1] in ("blame", "widen", "judge"):
     if STAND_IN == "old":
         print("usage: tracesync solve PROBLEM | session DECL")
         sys.exit(2)
@@ -88,8 +99,25 @@ if sys.argv[1] == "blame":
     if open(sys.argv[2]).read() != {PROBLEM!r} + "\\n":
         print("problem 1 1")
         sys.exit(4)
-    print("blame none" if STAND_IN == "healed" else {BLAMES!r})
+    if sys.argv[1] == "judge":
+        lines = open(sys.argv[3]).read().split("\\n")
+        if lines[0] != "widening 1":
+            print("certificate 1 1")
+            sys.exit(6)
+        print("yes" if lines[1] == "least 5 gaps" else "no run broken late a#1 0.000000000 1.000000000")
+        sys.exit(lines[1] != "least 5 gaps")
+    words = sys.argv[3:]
+    if sys.argv[1] == "widen":
+        number = "none" if words[:1] == ["least"] else "5"
+        print({WIDENING!r}.format(" ".join([number, *words])))
+    else:
+        print("blame none" if STAND_IN == "healed" else {BLAMES!r})
     sys.exit()
+if STAND_IN in ("older", "old", "forgetful"):
+    # (no session knows the line)
+    del REPLIES["blame"]
+if STAND_IN == "healed":
+    REPLIES["blame"] = "blame none"
 if STAND_IN == "deaf":
     import signal
     signal.signal(signal.SIGINT, signal.SIG_IGN)

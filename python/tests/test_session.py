@@ -11,8 +11,19 @@ from typing import Any, List
 from unittest import mock
 
 import tracesync
-from standing_in import CYCLE, HOSTS, PROBLEM, PROOF, StandingIn
-from tracesync import Contradiction, DeclarationRefused, Ended, Interval, NoProgram, Order, Problem, Refused, Session
+from standing_in import CYCLE, HOSTS, PROBLEM, PROOF, WIDENING, StandingIn
+from tracesync import (
+    Blame,
+    Contradiction,
+    DeclarationRefused,
+    Ended,
+    Interval,
+    NoProgram,
+    Order,
+    Problem,
+    Refused,
+    Session,
+)
 
 
 class Answers(StandingIn):
@@ -70,21 +81,61 @@ class Answers(StandingIn):
     def test_what_is_to_blame(self) -> None:
         session = self.session()
         found = session.blame()
-        self.assertEqual(found[:2], [("delays", None, None, "ns"), ("least", None, None, "ns")])
-        self.assertEqual(found[2:4], [("stamps", None, 24, "ns"), ("rates", None, 10**9, "ppb")])
-        self.assertEqual(found[4:6], [("stamps", "a1", 2**62 - 1, "ns"), ("rates", "a1", None, "ppb")])
+        self.assertEqual(found[:2], [Blame("delays", None, None, "ns"), Blame("least", None, None, "ns")])
+        self.assertEqual(found[2:4], [Blame("stamps", None, 24, "ns"), Blame("rates", None, 10**9, "ppb")])
+        self.assertEqual(found[4], Blame("gaps", None, 5, "ns"))
+        self.assertEqual(found[5:7], [Blame("stamps", "a1", 2**62 - 1, "ns"), Blame("rates", "a1", None, "ppb")])
         # (a clock may have this name, too)
-        self.assertEqual(found[6:], [("stamps", "none", None, "ns"), ("rates", "none", 1, "ppb")])
+        self.assertEqual(found[7:9], [Blame("stamps", "none", None, "ns"), Blame("rates", "none", 1, "ppb")])
+        link = "a1", "none"
+        self.assertEqual(found[9:11], [Blame("delays", None, None, "ns", link), Blame("least", None, 3, "ns", link)])
+        link = "a2", "a1"
+        self.assertEqual(found[11:], [Blame("delays", None, 7, "ns", link), Blame("least", None, None, "ns", link)])
+        self.assertEqual([it.words for it in found[4:6]], [("gaps",), ("stamps", "a1")])
+        self.assertEqual(found[11].words, ("delays", "a2", "a1"))
+
+    def test_problems_are_blamed_as_sessions_are(self) -> None:
+        session = self.session()
+        found = session.blame()
         self.assertEqual(session.problem().blame(self.program), found)
         with mock.patch.dict(os.environ, TRACESYNC=self.program):
             self.assertEqual(session.problem().blame(), found)
-        with mock.patch.dict(os.environ, STAND_IN="healed"):
-            self.assertEqual(session.blame(), [])
+        with mock.patch.dict(os.environ, STAND_IN="healed"), Session("hosts.toml", self.program) as healed:
+            self.assertEqual((healed.blame(), session.problem().blame(self.program)), ([], []))
+
+    def test_a_session_that_knows_no_blame_is_asked_for_its_problem(self) -> None:
+        with mock.patch.dict(os.environ, STAND_IN="older"):
+            session = self.session()
+        self.assertEqual(len(session.blame()), 13)
+        self.assertEqual(session.keep("a#1"), 3)
 
     def test_blame_is_of_the_program_of_the_session(self) -> None:
-        with Session("hosts.toml", "./program") as session, mock.patch.dict(os.environ, TRACESYNC="nosuch"):
+        with mock.patch.dict(os.environ, STAND_IN="older"):
+            session = Session("hosts.toml", "./program")
+        with session, mock.patch.dict(os.environ, TRACESYNC="nosuch"):
             os.chdir("/")
-            self.assertEqual(len(session.blame()), 8)
+            self.assertEqual(len(session.blame()), 13)
+
+    def test_a_widening_has_its_number_and_its_text(self) -> None:
+        problem = self.session().problem()
+        found = problem.widen("gaps", program=self.program)
+        self.assertEqual((found.least, found.what, found.unit), (5, ("gaps",), "ns"))
+        self.assertEqual(found.text, f"{WIDENING.format('5 gaps')}\n")
+        found = problem.widen(program=self.program)
+        self.assertEqual((found.least, found.what, found.lines[1]), (5, ("delays",), "least 5"))
+        found = problem.widen("least", "a2", "a1", program=self.program)
+        self.assertEqual((found.least, found.what), (None, ("least", "a2", "a1")))
+        self.assertEqual(problem.widen("rates", "a1", program=self.program).unit, "ppb")
+
+    def test_a_widening_is_judged(self) -> None:
+        problem = self.session().problem()
+        with mock.patch.dict(os.environ, TMPDIR=self.room), mock.patch("tempfile.tempdir", self.room):
+            before = sorted(os.listdir(self.room))
+            self.assertIs(problem.judge(problem.widen("gaps", program=self.program).text, self.program), True)
+            self.assertIs(problem.judge(problem.widen(program=self.program).text, self.program), False)
+            with self.assertRaisesRegex(Ended, "status 6: certificate 1 1"):
+                problem.judge("5", self.program)
+            self.assertEqual(sorted(os.listdir(self.room)), before)
 
     def test_keeping_and_reports(self) -> None:
         session = self.session()
@@ -148,17 +199,30 @@ class Refusals(StandingIn):
                 session.report()
 
     def test_a_session_goes_on_where_nothing_can_be_blamed(self) -> None:
-        session = self.session()
-        with mock.patch.dict(os.environ, STAND_IN="old"):
-            with self.assertRaisesRegex(NoProgram, "/program is too old: it has no command `blame`"):
-                session.blame()
-        with mock.patch.dict(os.environ, STAND_IN="forgetful"):
-            with self.assertRaises(Ended) as caught:
-                session.blame()
-        self.assertEqual((caught.exception.status, caught.exception.lines), (9, []))
+        old = "/program is too old: it has no command `blame`"
+        cases: Any = (("old", NoProgram, old), ("forgetful", Ended, "status 9"))
+        for stands, kind, told in cases:
+            with mock.patch.dict(os.environ, STAND_IN=stands):
+                session = self.session()
+                with self.assertRaisesRegex(kind, told):
+                    session.blame()
+            self.assertEqual(session.keep("a#1"), 3)
         with self.assertRaisesRegex(Ended, "the program ended with status 4: problem 1 1"):
             Problem().blame(self.program)
-        self.assertEqual(session.keep("a#1"), 3)
+
+    def test_what_cannot_be_widened(self) -> None:
+        problem = self.session().problem()
+        cases = ["nonsense"], ["gaps", "a1"], ["stamps", "a1", "a2"], ["least", "a1"], ["delays", "a1", "a2", "a1"]
+        for words in cases:
+            with self.assertRaisesRegex(ValueError, f"nothing is called `{' '.join(words)}`"):
+                problem.widen(*words, program=self.program)
+        with self.assertRaisesRegex(ValueError, "no clock a9"):
+            problem.widen("delays", "a1", "a9", program=self.program)
+        with mock.patch.dict(os.environ, STAND_IN="old"):
+            with self.assertRaisesRegex(NoProgram, "no command `widen`, or not with these words"):
+                problem.widen("gaps", program=self.program)
+        with mock.patch.dict(os.environ, STAND_IN="forgetful"), self.assertRaisesRegex(Ended, "status 9"):
+            problem.widen("gaps", program=self.program)
 
     def test_all_exceptions_are_of_one_kind_and_go_from_process_to_process(self) -> None:
         cases = (

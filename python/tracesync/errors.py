@@ -12,6 +12,7 @@ STATUSES = {
     2: "the words are no command of this program",
     3: "the declaration is refused",
     4: "the text of the problem is refused",
+    6: "the text of the certificate, or of the widening, is refused",
     7: "a file is not there, or a read failed",
     8: "a write failed",
     9: "memory ran out, or so the program says",

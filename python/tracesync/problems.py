@@ -2,13 +2,18 @@
 
 from __future__ import annotations
 
+import os
+import tempfile
 from collections.abc import Iterable
 from dataclasses import dataclass, field
 from typing import Literal, NamedTuple, Optional, cast
 
-from .program import run_over
+from .program import UNSHOWN, run_over
 
-What = Literal["delays", "least", "stamps", "rates"]
+What = Literal["delays", "least", "stamps", "rates", "gaps"]
+
+# How many clocks may be named behind a kind of bounds.
+NAMED: dict[str, tuple[int, ...]] = {"delays": (0, 2), "least": (0, 2), "stamps": (0, 1), "rates": (0, 1), "gaps": (0,)}
 
 
 class Clock(NamedTuple):
@@ -42,13 +47,52 @@ class Blame(NamedTuple):
     """By how much bounds of one kind must be wider at least, so that by this alone nothing contradicts any more."""
 
     what: What
-    """All greatest delays, all least delays, what stamps may be early and late, or `short` and `long` of rates."""
+    """Greatest delays, least delays, what stamps may be early and late, `short` and `long` of rates, or gaps."""
     clock: Optional[str]
-    """The one clock whose stamps or whose rate is meant; None where those of all clocks are, and of delays."""
+    """The one clock whose stamps or whose rate is meant; None where those of all clocks are, and of delays and gaps."""
     least: Optional[int]
     """The least widening by which that is so; with 1 less something contradicts. None where there is no such one."""
     unit: Literal["ns", "ppb"]
     """What it is counted in: ns, or of rates parts per billion."""
+    link: Optional[tuple[str, str]] = None
+    """The clocks that the messages go from and to whose delays are meant; None where those of all messages are."""
+
+    @property
+    def words(self) -> tuple[str, ...]:
+        """The words that name what is widened, as `Problem.widen` takes them.
+
+        >>> Blame("delays", None, 500, "ns", ("web", "db")).words
+        ('delays', 'web', 'db')
+        """
+        return (self.what, *(self.link or ()), *(() if self.clock is None else (self.clock,)))
+
+
+@dataclass(frozen=True)
+class Widening:
+    """The least widening of what is named by which a problem has an execution, with the text that shows it.
+
+    >>> found = read_widening(["widening 1", "least 3 delays web db", "event web#1 0.000000000", "end"])
+    >>> found.least, found.what, found.unit
+    (3, ('delays', 'web', 'db'), 'ns')
+    >>> read_widening(["widening 1", "least none", "cycle", "end"]).what
+    ('delays',)
+    """
+
+    lines: list[str] = field(repr=False)
+    least: Optional[int]
+    """By how much each is wider at least, in whole ns, or of rates in ppb; None where no widening does."""
+    what: tuple[str, ...]
+    """The words that name what is widened."""
+
+    @property
+    def unit(self) -> Literal["ns", "ppb"]:
+        """What it is counted in."""
+        return unit_of(self.what[0])
+
+    @property
+    def text(self) -> str:
+        """The text, which `judge` reads: the widening, an execution with it, and a contradiction with 1 less."""
+        return "".join(f"{line}\n" for line in self.lines)
 
 
 @dataclass
@@ -79,8 +123,10 @@ class Problem:
     def blame(self, program: Optional[str] = None) -> list[Blame]:
         """Returns by how much each kind of bounds must be wider at least to heal by itself; [] if nothing contradicts.
 
-        They are all greatest delays, all least delays, all stamps and all rates; then stamps and rates of each clock.
-        Widenings are whole ns, and of rates parts per billion. `program` is found as a session finds it if not said.
+        They are all greatest delays, all least delays, all stamps, all rates, and all gaps where there are some; then
+        stamps and rates of each clock; then greatest and least delays of each link between two clocks, in the order of
+        the clocks. Widenings are whole ns, and of rates parts per billion. `program` is found as a session finds it if
+        not said.
 
         Raises `NoProgram` where there is none, or where it is too old and has no command `blame`, and `Ended` where it
         ends in place of an answer.
@@ -91,9 +137,46 @@ class Problem:
         ...     added = session.add("db", "examples/session/db-slow.csv")
         ...     problem = session.problem()
         >>> problem.blame()[2]
-        Blame(what='stamps', clock=None, least=2496, unit='ns')
+        Blame(what='stamps', clock=None, least=2496, unit='ns', link=None)
         """
         return read_blames(run_over("blame", self.text, program))
+
+    def widen(self, *what: str, program: Optional[str] = None) -> Widening:
+        """Returns the least widening of what is named, by itself, by which nothing contradicts any more.
+
+        The words are `delays` (or none), `least`, `stamps`, `rates` or `gaps`; behind `stamps` and `rates` the name of
+        a clock may stand, behind `delays` and `least` the two that a link goes from and to. `Blame.words` has them.
+
+        Raises ValueError where the words are others, or name a clock that the problem has not, `NoProgram` where there
+        is none, or where it is too old for these words, and `Ended` where it ends in place of an answer.
+
+        >>> from tracesync import Session
+        >>> with Session("examples/session/hosts.toml") as session:
+        ...     added = session.add("web", "examples/session/web.csv")
+        ...     added = session.add("db", "examples/session/db-slow.csv")
+        ...     problem = session.problem()
+        >>> found = problem.widen("stamps")
+        >>> found.least, problem.judge(found.text)
+        (2496, True)
+        """
+        kind, *clocks = what or ("delays",)
+        if len(clocks) not in NAMED.get(kind, ()):
+            raise ValueError(f"nothing is called `{' '.join(what)}` that can be widened")
+        for it in clocks:
+            if it not in self.clocks:
+                raise ValueError(f"the problem has no clock {it}")
+        return read_widening(run_over("widen", self.text, program, what))
+
+    def judge(self, text: str, program: Optional[str] = None) -> bool:
+        """Returns whether a widening's text shows what it says of this problem; nothing is solved for it.
+
+        Raises `NoProgram`, and `Ended`, with status 6 where it is no such text.
+        """
+        with tempfile.TemporaryDirectory(prefix="tracesync-") as room:
+            path = os.path.join(room, "widening.txt")
+            with open(path, "w", encoding="utf-8", newline="\n") as it:
+                it.write(text)
+            return run_over("judge", self.text, program, [path], (0, UNSHOWN)) == ["yes"]
 
 
 def read_problem(lines: Iterable[str]) -> Problem:
@@ -116,8 +199,11 @@ def read_problem(lines: Iterable[str]) -> Problem:
 def read_blames(lines: list[str]) -> list[Blame]:
     """Returns what `blame` prints of a problem; nothing where it has an execution.
 
-    >>> read_blames(["blame least none", "blame rates web 104320000 ppb", "end"])[1]
-    Blame(what='rates', clock='web', least=104320000, unit='ppb')
+    >>> found = read_blames(["blame least none", "blame rates web 104320000 ppb", "blame delays web db none", "end"])
+    >>> found[1]
+    Blame(what='rates', clock='web', least=104320000, unit='ppb', link=None)
+    >>> found[2]
+    Blame(what='delays', clock=None, least=None, unit='ns', link=('web', 'db'))
     >>> read_blames(["blame none"])
     []
     """
@@ -130,4 +216,17 @@ def read_blame(words: list[str]) -> Blame:
     has_least = words[-1] != "none"
     named = words[1 : -2 if has_least else -1]
     least = int(words[-2]) if has_least else None
-    return Blame(cast(What, words[0]), named[0] if named else None, least, "ppb" if words[0] == "rates" else "ns")
+    clock = named[0] if len(named) == 1 else None
+    link = (named[0], named[1]) if len(named) > 1 else None
+    return Blame(cast(What, words[0]), clock, least, unit_of(words[0]), link)
+
+
+def read_widening(lines: list[str]) -> Widening:
+    """Returns the widening that the lines of its text spell."""
+    _, number, *what = lines[1].split(" ")
+    return Widening(lines, None if number == "none" else int(number), tuple(what) or ("delays",))
+
+
+def unit_of(what: str) -> Literal["ns", "ppb"]:
+    """Returns what a widening of such bounds is counted in."""
+    return "ppb" if what == "rates" else "ns"

@@ -8,6 +8,7 @@ import shutil
 import subprocess
 import threading
 import weakref
+from collections.abc import Sequence
 from typing import Optional
 
 from .errors import Ended, NoProgram
@@ -18,8 +19,9 @@ from .replies import ENDS, is_last
 TOP = os.path.dirname(os.path.dirname(os.path.dirname(os.path.realpath(__file__))))
 # For so many seconds a program whose input has ended may go on before it is ended by a signal.
 PATIENCE = 2.0
-# With this status the program ends where it does not know the command.
-UNKNOWN = 2
+# With this status the program ends where it does not know the command, and with this one where a text does not show
+# what it says.
+UNKNOWN, UNSHOWN = 2, 1
 
 
 def built_program() -> str:
@@ -51,16 +53,19 @@ def run(words: list[str], program: Optional[str] = None, text: str = "") -> tupl
     return ran.stdout.splitlines(), ran.returncode
 
 
-def run_over(command: str, text: str, program: Optional[str] = None) -> list[str]:
-    """Returns the lines that a command prints over the text of a problem.
+def run_over(
+    command: str, text: str, program: Optional[str] = None, words: Sequence[str] = (), statuses: Sequence[int] = (0,)
+) -> list[str]:
+    """Returns the lines that a command prints over the text of a problem, behind whose path these words stand.
 
-    Raises NoProgram where the program does not know the command, and Ended where its status is another one than 0.
+    Raises NoProgram where the program does not know the command, and Ended where its status is none of these.
     """
     program = program or find_program()
-    lines, status = run([command, "/dev/stdin"], program, text)
+    lines, status = run([command, "/dev/stdin", *words], program, text)
     if status == UNKNOWN:
-        raise NoProgram(f"{program} is too old: it has no command `{command}`")
-    if status:
+        told = f"it has no command `{command}`{', or not with these words' if words else ''}"
+        raise NoProgram(f"{program} is too old: {told}")
+    if status not in statuses:
         raise Ended(lines, status)
     return lines
 

@@ -11,6 +11,7 @@ from .starts import MAGICS, SECTION, is_capture, packed, start_of
 
 COMMANDS = {
     "add": 2, "interval": 2, "order": 2, "time": 1, "merge": 0, "prove": 2, "keep": 1, "problem": 0, "report": 0,
+    "blame": 0,
 }  # fmt: skip
 # What each refusal says of the line, or of what it asks for, without a look at a file.
 CAUSES = {

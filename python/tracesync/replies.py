@@ -12,8 +12,9 @@ ENDS = ("declaration ", "read fault", "script limit")
 
 
 def is_texted(line: str) -> bool:
-    """Returns whether a reply that begins with this line is a certificate or a problem: these have a last line."""
-    return line in ("certificate 1", "problem 1", "problem 2")
+    """Returns whether a reply that begins with this line is a text that has a last line: a certificate, a problem, or
+    what is to blame."""
+    return line in ("certificate 1", "problem 1", "problem 2") or (line.startswith("blame ") and line != "blame none")
 
 
 def lines_behind(first: str) -> int:
@@ -137,9 +138,11 @@ class _EachReport(TypedDict):
 class Report(_EachReport, total=False):
     """What was matched and what was not: a dictionary, as `report` prints it in JSON.
 
-    It has `passed` only where packets were passed over, under whichever label, and `dropped` only where some were
-    dropped: an entry for each such label.
+    It has `alone` only where the declaration has a `window`: how many keys have sends and receives, and no group with
+    both, as where the window is smaller than what clocks disagree by. It has `passed` only where packets were passed
+    over, under whichever label, and `dropped` only where some were dropped: an entry for each such label.
     """
 
+    alone: int
     dropped: List[Dropped]
     passed: PassedOver

@@ -13,7 +13,7 @@ from .certificates import Cycle, Proof, read_cycle
 from .declaration import read_declaration, refused
 from .errors import Contradiction, DeclarationRefused, Ended, Refused
 from .numbers import Interval, read_interval
-from .problems import Blame, Problem, read_problem
+from .problems import Blame, Problem, read_blames, read_problem
 from .program import LineSession
 from .refusals import CAUSES, Refusals
 from .replies import Added, Order, Report, read_added
@@ -21,6 +21,8 @@ from .timelines import Merge, Times, read_merge
 
 # What a text of a declaration is called where it is told.
 TEXT = "the declaration"
+# With this number a line is refused that is no command.
+NO_COMMAND = 20
 
 
 @contextlib.contextmanager
@@ -225,20 +227,28 @@ class Session:
     def blame(self) -> list[Blame]:
         """Returns by how much each kind of bounds must be wider at least to heal by itself; [] if nothing contradicts.
 
-        They are all greatest delays, all least delays, all stamps and all rates; then stamps and rates of each clock.
-        Widenings are whole ns, and of rates parts per billion. The problem is given to another process, and the session
-        goes on however that ends. Raises `NoProgram` where the program is too old and has no command `blame`.
+        They are all greatest delays, all least delays, all stamps, all rates, and all gaps where there are some; then
+        stamps and rates of each clock; then greatest and least delays of each link between two clocks, in the order of
+        the clocks. Widenings are whole ns, and of rates parts per billion. Each is a search of its own over the whole
+        problem. A program whose sessions do not know `blame` is given the problem, in another process.
+
+        Raises `NoProgram` where the program is too old for that, too, and `Ended` where memory runs out.
 
         >>> with Session("examples/session/hosts.toml") as session:
         ...     added = session.add("web", "examples/session/web.csv")
         ...     added = session.add("db", "examples/session/db-slow.csv")
         ...     found = session.blame()
         >>> found[2]
-        Blame(what='stamps', clock=None, least=2496, unit='ns')
+        Blame(what='stamps', clock=None, least=2496, unit='ns', link=None)
         >>> print(found[0].least)
         None
         """
-        return self.problem().blame(self._lines.program)
+        try:
+            return read_blames(self._ask("blame"))
+        except Refused as why:
+            if why.number != NO_COMMAND:
+                raise
+            return self.problem().blame(self._lines.program)
 
     def report(self) -> Report:
         """Returns what was matched and what was not, as a dictionary.

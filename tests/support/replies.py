@@ -11,7 +11,7 @@ def replies_of(lines: Sequence[str]) -> list[list[str]]:
     found, at = [], 0
     while at < len(lines):
         first = lines[at].split(" ")
-        if first[0] in ("certificate", "problem"):
+        if first[0] in ("certificate", "problem") or (first[0] == "blame" and first != ["blame", "none"]):
             end = lines.index("end", at) + 1
         elif first[0] == "merge":
             end = at + 1 + int(first[1])

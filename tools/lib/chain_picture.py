@@ -18,8 +18,10 @@ RED = "#c22020"
 class ChainPicture:
     """Where each stamp of a chain lies: on its host's line, in the order of the stamps there. Nothing is to scale, for there are no real times."""
 
-    def __init__(self, steps: list[Step], problem: Problem) -> None:
+    def __init__(self, steps: list[Step], problem: Problem, title: str | None = None) -> None:
         self.steps, self.problem = steps, problem
+        lack = -sum(it.weight for it in steps)
+        self.title = title or f"No real times obey all that is declared here: together it is too narrow by {time_text(lack, -1)} at least"
         self.spans = stretches(steps)
         self.events = {name: problem.events[name] for name in event_names(steps)}
         # (the two readings of each follow, the earlier clock's first)
@@ -47,13 +49,12 @@ class ChainPicture:
         return self.x[host, stamp], self.y[host]
 
     def svg(self) -> str:
-        lack = -sum(it.weight for it in self.steps)
         high, wide = TOP + 50 + ROW * (len(self.hosts) - 1) + 70 + FOOT, self.left + self.wide + 60
         out = [
             f'<svg xmlns="http://www.w3.org/2000/svg" viewBox="0 0 {wide:.0f} {high}" width="{wide:.0f}" height="{high}" font-family="Helvetica, Arial, sans-serif" font-size="11">',
             f'<defs><marker id="head" viewBox="0 0 10 10" refX="9" refY="5" markerWidth="8" markerHeight="8" orient="auto"><path d="M0 1 L10 5 L0 9 z" fill="{RED}"/></marker></defs>',
             f'<rect width="{wide:.0f}" height="{high}" fill="#fff"/>',
-            f'<text x="20" y="24" font-size="13" fill="#333">{escape(f"No real times obey all that is declared here: together it is too narrow by {time_text(lack, -1)} at least")}</text>',
+            f'<text x="20" y="24" font-size="13" fill="#333">{escape(self.title)}</text>',
             '<text x="20" y="42" fill="#777">Stamps of each host in their order; nothing is to scale</text>',
         ]
         out += [line for host in self.hosts for line in self.host(host)]
@@ -122,6 +123,6 @@ def stretches(steps: list[Step]) -> list[tuple[str, int, int, str, int]]:
     return found
 
 
-def chain_svg(steps: list[Step], problem: Problem) -> str | None:
+def chain_svg(steps: list[Step], problem: Problem, title: str | None = None) -> str | None:
     """Returns the picture of a contradiction, or None where it has too many steps for one."""
-    return ChainPicture(steps, problem).svg() if len(steps) <= STEPS_MOST else None
+    return ChainPicture(steps, problem, title).svg() if len(steps) <= STEPS_MOST else None

@@ -8,11 +8,9 @@ from captures import Packet
 from chains import told_follow
 from headers import TCP, decode, described
 from inputs import Input
-from own_program import PROGRAM
 from tracesync.certificates import Step, read_cycle
-from tracesync.errors import TracesyncError
 from tracesync.numbers import UNITS
-from tracesync.problems import Blame, Problem, read_problem
+from tracesync.problems import Problem
 from words import count_text, decimal_text, time_text
 
 # The first moment of 2000: what is earlier is no time since 1970, but that of a clock which began with 0.
@@ -26,15 +24,6 @@ NAMED_MOST = 3
 
 # No quartz is off by so many parts per billion.
 QUARTZ_MOST = 1_000_000
-
-# A rate that is off by so many parts per billion more is the likeliest fault; by more than so many more no clock drifts.
-LIKELY_MOST, DRIFT_MOST = 100_000, 20_000_000
-
-# The rank of such a widening, the last one.
-SET = 5
-
-# How many widenings are told.
-BLAMED_MOST = 6
 
 
 def stamp_text(stamp: int) -> str:
@@ -64,11 +53,15 @@ class Contradiction:
     def lines(self) -> list[str]:
         """Returns the groups with their sums, one on each line, and their sum."""
         total = sum(it.weight for it in self.steps)
+        found = ["These declarations cannot all hold. Each says how much later one moment is at most, and they go round:"]
+        return [*found, *self.sums(), *self.events(), *self.cures(-total)]
+
+    def sums(self) -> list[str]:
+        """Returns the groups with their sums, and their sum."""
+        total = sum(it.weight for it in self.steps)
         rows = [*self.groups(), (f"in all, where no less than 0 can be: they are too narrow by {time_text(-total, -1)} at least", total)]
         wide = max(len(exact_ns(weight)) for _, weight in rows)
-        found = ["These declarations cannot all hold. Each says how much later one moment is at most, and they go round:"]
-        found += [f"  {exact_ns(weight):>{wide}} ns  {text}" for text, weight in rows]
-        return found + self.events() + self.cures(-total)
+        return [f"  {exact_ns(weight):>{wide}} ns  {text}" for text, weight in rows]
 
     def groups(self) -> list[tuple[str, int]]:
         """Returns each group in words with the sum of its weights: spans by clock, stamps' errors, and messages one by one."""
@@ -180,54 +173,6 @@ class Contradiction:
         kinds = {it.label: it.kind for it in self.inputs.values()}
         of_logs = all(kinds.get(name.partition("#")[0]) == "log" for it in self.messages() for name in it)
         return ["one key for two messages"] if of_logs else ["packets that a capture lost", "one key for two messages"]
-
-
-def rank(it: Blame) -> tuple[int, int]:
-    """Returns where a widening stands, the likeliest first: a small one of rates, then stamps and delays, then a greater one of rates."""
-    least = it.least or 0
-    if it.what == "rates":
-        return 0 if least <= LIKELY_MOST else 4 if least <= DRIFT_MOST else SET, least
-    return {"stamps": 1, "least": 2, "delays": 3}[it.what], least
-
-
-def widening_text(it: Blame) -> str:
-    """Returns a widening in words."""
-    if it.what in ("least", "delays"):
-        return f"each `least` less by {it.least} ns" if it.what == "least" else f"each `most` greater by {it.least} ns"
-    names = "`short` and `long`" if it.what == "rates" else "`early` and `late`"
-    whose = "each clock" if it.clock is None else f"{it.clock}'s clock"
-    return f"{names} of {whose} greater by {it.least} {it.unit}{', as of a clock that was set' if rank(it)[0] == SET else ''}"
-
-
-def blame_lines(found: list[Blame]) -> list[str]:
-    """Returns which widenings mend all that is contradicted, each alone, the likeliest first; nothing where nothing is."""
-    alone = {(it.what, it.least) for it in found if it.clock is not None}
-    healing = [it for it in found if it.least is not None]
-    # (where one clock needs no more than all clocks do, they are not told)
-    likely = sorted((it for it in healing if it.clock is not None or (it.what, it.least) not in alone), key=rank)
-    left, never = len(likely[BLAMED_MOST:]), len(found) - len(healing)
-    if not likely:
-        return ["No bounds of one kind, however wide, mend all that is contradicted (by `blame`)."] if found else []
-    lines = ["With any one of these alone nothing contradicts any more, and with 1 less something does (by `blame`); the likeliest first:"]
-    lines += [f"  {widening_text(it)}" for it in likely[:BLAMED_MOST]]
-    rest = [f"{count_text(left, 'less likely one is', 'less likely ones are')} left out"] if left else []
-    rest += [f"{count_text(never, 'other')} would not do alone, however wide"] if never else []
-    return [*lines, f"{'; '.join(rest)}."] if rest else lines
-
-
-def told_blame(problem: Problem, program: str | None) -> list[str]:
-    """Returns the same of a problem, as the program says; nothing where it does not."""
-    try:
-        return blame_lines(problem.blame(program)) if program else []
-    except (OSError, TracesyncError):
-        return []
-
-
-def told_cycle(lines: list[str], problem_lines: list[str] | None = None, inputs: dict[int, Input] | None = None, program: str | None = PROGRAM) -> list[str]:
-    """Returns a contradiction in words, with what mends all that is contradicted where the problem is known."""
-    problem = read_problem(problem_lines) if problem_lines else None
-    found = Contradiction(read_cycle(lines) or [], problem, inputs).lines()
-    return found + (told_blame(problem, program) if problem else [])
 
 
 def told_keys(lines: list[str], inputs: dict[int, Input], declaration: str) -> list[str]:

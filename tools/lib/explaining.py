@@ -4,8 +4,9 @@ import json
 from dataclasses import dataclass
 from typing import Any
 
-from contradiction import stamp_text, told_cycle, told_keys
+from contradiction import stamp_text, told_keys
 from ends import exchanged
+from healing import Healing, told_blames, told_cycle
 from inputs import Input, open_input, with_hosts
 from losses import told_losses
 from own_program import PROGRAM, RecordedSession
@@ -17,7 +18,7 @@ from tracesync.numbers import UNITS, read_interval
 from tracesync.problems import read_problem
 from tracesync.refusals import Refusals
 from tracesync.replies import read_added
-from words import REASONS, count_text, least_text, span_text, time_text, told_again
+from words import REASONS, alone_text, count_text, least_text, span_text, time_text, told_again
 
 
 @dataclass
@@ -83,6 +84,8 @@ class Explainer:
         }
         if words[0] in tellers:
             return [tellers[words[0]]()]
+        if words[0] == "blame":
+            return told_blames(reply, self.known_problem() if len(reply) > 1 else None, self.program)
         if reply[0].startswith("{"):
             report = json.loads(reply[0])
             return [self.report(report), *told_again(report, self.declared, self.path or "the declaration")]
@@ -138,6 +141,7 @@ class Explainer:
         parts += [f"{count} {REASONS.get(name, name)}" for name, count in report["nokey"].items() if count]
         parts += [f"{report['unmatched']} without another end"] if report["unmatched"] else []
         parts += [f"{count_text(len(report['ambiguous']), 'key')} with too many events"] if report["ambiguous"] else []
+        parts += [alone_text(report["alone"])] if report.get("alone") else []
         return "; ".join(parts)
 
     def known_problem(self) -> list[str] | None:
@@ -153,11 +157,11 @@ class Explainer:
                 return None
         return self.problem
 
-    def told_cycle(self, lines: list[str], problem: list[str] | None, inputs: dict[int, Input]) -> list[str]:
+    def told_cycle(self, lines: list[str], problem: list[str] | None, inputs: dict[int, Input], healing: Healing | None = None) -> list[str]:
         """Returns a contradiction in words, as lines."""
         captures = with_hosts((it for it in inputs.values() if it.kind == "capture"), self.declared)
         keys = told_keys(lines, inputs, self.path) if self.path and self.declared and not self.declared.get("tcp_options") else []
-        return told_cycle(lines, problem, inputs, self.program) + keys + exchanged(captures, self.declared)
+        return told_cycle(lines, problem, inputs, self.program, healing) + keys + exchanged(captures, self.declared)
 
     def told_end(self, lines: list[str]) -> list[str]:
         """Returns what the last line of a run says that is no reply."""

@@ -18,6 +18,7 @@ from event_count import LOOK_MOST, LOOK_TIME, count_events
 from explaining import Explainer
 from files import read_own, write_own
 from gathering import Gathering
+from healing import healing_of
 from inputs import Input, with_hosts
 from losses import loss_lines
 from own_program import BUILT, PROGRAM, Look, RecordedSession
@@ -161,11 +162,7 @@ class Making:
             self.say(f"{' '.join(words)}: {explainer.refusals.told(line, words[1:])}.")
         self.say(*loss_lines(with_hosts((it for it, _ in found.added), self.declared()), declared_own(self.declared())))
         if found.cycle:
-            self.say("The declaration is contradicted, so there is no timeline.", *explainer.told_cycle(found.cycle, found.problem, self.inputs_text(found)))
-            text = chain_svg(read_cycle(found.cycle) or [], read_problem(found.problem))
-            if text:
-                self.keep("contradiction.svg", text)
-                self.say(f"Wrote {self.folder}/contradiction.svg.")
+            self.tell_contradiction(found, explainer)
             return 1
         if not found.events:
             self.say("There are no events, and nothing to draw.")
@@ -177,6 +174,19 @@ class Making:
         if not self.outputs:
             self.keep_all(found)
         return 1 if refused or not found.report["messages"] else 0
+
+    def tell_contradiction(self, found: Timeline, explainer: Explainer) -> None:
+        """Tells a contradiction and what mends it, and draws its chain, and those by which less does not mend it."""
+        problem, steps = read_problem(found.problem), read_cycle(found.cycle or []) or []
+        healing = healing_of(problem, self.program, steps)
+        told = explainer.told_cycle(found.cycle or [], found.problem, self.inputs_text(found), healing)
+        self.say("The declaration is contradicted, so there is no timeline.", *told)
+        texts = {"contradiction.svg": chain_svg(steps, problem)}
+        texts |= {f"chain-{number}.svg": chain_svg(its, problem, title) for number, (title, its) in enumerate(healing.pictured(), 1)}
+        drawn = {name: text for name, text in texts.items() if text}
+        for name, text in drawn.items():
+            self.keep(name, text)
+        self.say(*([f"Wrote {', '.join(f'{self.folder}/{name}' for name in drawn)}."] if drawn else []))
 
     def keep_all(self, found: Timeline) -> None:
         """Writes the page and the pictures into the folder, those in which something is drawn."""

@@ -93,11 +93,20 @@ def count_text(count: int, one: str, many: str | None = None) -> str:
     return f"{count} {one if count == 1 else many or one + 's'}"
 
 
+def alone_text(count: int) -> str:
+    """Returns how many keys stand alone."""
+    return f"{count_text(count, 'key is', 'keys are')} sent and received, and never within the window"
+
+
 def told_again(report: Mapping[str, Any], declared: Mapping[str, Any], declaration: str) -> list[str]:
-    """Returns what to write into a declaration that has no window, where most keys are used again."""
+    """Returns what to write into a declaration that has no window, where most keys are used again, or whose window parts most of them."""
     keys = [len(it["sends"]) + len(it["receives"]) for it in report["ambiguous"]]
-    often = sum(count > KEY_EVENTS_MOST for count in keys)
-    if "window" in declared or 2 * often <= report["messages"] + len(keys):
+    often, most = sum(count > KEY_EVENTS_MOST for count in keys), report["messages"] + len(keys)
+    if "window" in declared:
+        alone = report.get("alone", 0)
+        cure = f"write offset = NS at the clocks that are ahead, about, or a greater window at the top of {declaration}"
+        return [f"Most keys stand alone: {alone_text(alone)}. So {cure}."] if alone > most else []
+    if 2 * often <= most:
         return []
     told = f"Most keys are used again: {count_text(often, 'key has', 'keys have')} more than {KEY_EVENTS_MOST} events"
     cure = f"write window = NS at the top of {declaration}, more ns than a message takes and fewer than lie between two uses of a key"
@@ -145,6 +154,8 @@ class Words:
             names = [name for it in report["ambiguous"] for name in (*it["sends"], *it["receives"])]
             shown = ", ".join(names[:6]) + (", .." if len(names) > 6 else "")
             lines.append(f"{count_text(len(names), 'event is', 'events are')} ambiguous, since several have one key: {shown}.")
+        if report.get("alone"):
+            lines.append(f"{alone_text(report['alone'])}.")
         return lines
 
     def offsets(self) -> list[str]:

@@ -9,11 +9,12 @@ from xml.etree import ElementTree
 import making_captures as making
 from chain_picture import chain_svg
 from common import EXAMPLES
-from contradiction import Contradiction, blame_lines, told_cycle
+from contradiction import Contradiction
 from explaining import Explainer
+from healing import told_cycle
 from tracesync import declaration
 from tracesync.certificates import read_cycle
-from tracesync.problems import read_blames, read_problem
+from tracesync.problems import read_problem
 from tracesync.replies import split_replies
 
 DECLARED = f"{EXAMPLES}/captures/hosts.toml"
@@ -63,6 +64,13 @@ class Replies(unittest.TestCase):
             ("merge", "merge 1\n0.000000000 a#1", "1 event in the order of one execution, the earliest: for two of them ask `order`"),
             ("time a#1", "time 1795842008123456789.000000000 1795842008123456799.000000000",
              "by the clock of the source a#1 was between 2026-11-28 05:00:08.123456789 UTC and 2026-11-28 05:00:08.123456799 UTC, 10 ns apart (ns are cut off)"),
+            ("blame", "blame none", "nothing contradicts what was declared, so nothing is to blame"),
+            ("blame", "blame delays none\nblame gaps 4 ns\nend",
+             "With any one of these alone nothing contradicts any more, and with 1 less something does (by `blame`); the likeliest first:\n"
+             "  each `gap` less by 4 ns\n1 other would not do alone, however wide."),
+            ("report", '{"alone":2,"ambiguous":[],"consistent":true,"events":9,"messages":3,"nokey":{},"unmatched":1}',
+             "3 messages among 9 events; 1 without another end; 2 keys are sent and received, and never within the window"),
+            ("report", '{"alone":0,"ambiguous":[],"consistent":true,"events":6,"messages":3,"nokey":{},"unmatched":0}', "3 messages among 6 events"),
             ("report", '{"ambiguous":[],"consistent":true,"events":3,"messages":1,"nokey":{"short":1,"side":0},"unmatched":0}', "1 message among 3 events; 1 captured too short"),
             ("add a x", "added events 1 messages 0 withdrawn 0 pending 0 passed 3 consistent",
              "a has 1 events more, 0 messages were found, 3 packets under a are no events; what was declared can be true of all this"),
@@ -114,7 +122,8 @@ class Replies(unittest.TestCase):
 
     def test_replies_are_split_where_they_end(self) -> None:
         lines = ["kept 1", "merge 2", "0.000000000 a#1 end", "1.000000000 a#2", *CYCLE.split("\n"), "problem 1", "end", *FOLLOWED.split("\n"), "order open"]
-        self.assertEqual([len(it) for it in split_replies(lines)], [1, 3, 11, 2, 8, 1])
+        lines += ["blame none", "blame delays none", "blame stamps end none", "end", "kept 1"]
+        self.assertEqual([len(it) for it in split_replies(lines)], [1, 3, 11, 2, 8, 1, 1, 3, 1])
 
     def test_a_problem_with_clocks_that_follow(self) -> None:
         self.assertEqual(self.told("problem", FOLLOWED), "all that is declared and known: 2 clocks, 1 follow, 2 events, 1 message")
@@ -167,59 +176,6 @@ class Contradictions(unittest.TestCase):
 
     def test_a_delay_below_0_mends_nothing(self) -> None:
         self.assertNotIn("less than its least", "\n".join(told_cycle(CYCLE.split("\n"))))
-
-
-class Blames(unittest.TestCase):
-    """What mends all that is contradicted, and which of it is likely."""
-
-    FIRST = "With any one of these alone nothing contradicts any more, and with 1 less something does (by `blame`); the likeliest first:"
-    ALL = ["delays 500 ns", "least none", "stamps 24 ns"]
-
-    def told(self, *lines: str) -> list[str]:
-        return blame_lines(read_blames([f"blame {it}" for it in lines] + ["end"]))
-
-    def test_the_likeliest_first(self) -> None:
-        told = self.told(*self.ALL, "rates 90000 ppb", "stamps web 30 ns", "rates web 100000 ppb", "stamps db none", "rates db 100001 ppb")
-        self.assertEqual(told, [
-            self.FIRST,
-            "  `short` and `long` of each clock greater by 90000 ppb", "  `short` and `long` of web's clock greater by 100000 ppb",
-            "  `early` and `late` of each clock greater by 24 ns", "  `early` and `late` of web's clock greater by 30 ns",
-            "  each `most` greater by 500 ns", "  `short` and `long` of db's clock greater by 100001 ppb",
-            "2 others would not do alone, however wide.",
-        ])  # fmt: skip
-        self.assertEqual(self.told("delays 5 ns", "least 7 ns")[1:], ["  each `least` less by 7 ns", "  each `most` greater by 5 ns"])
-
-    def test_what_is_less_likely_is_left_out(self) -> None:
-        told = self.told(*self.ALL, "rates 20000000 ppb", "stamps web 48 ns", "rates web 20000001 ppb", "stamps db 48 ns", "rates db 30000000 ppb")
-        self.assertEqual([it for it in told if "`long`" in it], ["  `short` and `long` of each clock greater by 20000000 ppb", "  `short` and `long` of web's clock greater by 20000001 ppb, as of a clock that was set"])
-        self.assertEqual((len(told), told[-1]), (8, "1 less likely one is left out; 1 other would not do alone, however wide."))
-        many = self.told(*self.ALL, "rates none", *(f"stamps c{it} {it + 48} ns" for it in range(65536)))
-        self.assertEqual((len(many), many[-1]), (8, "65532 less likely ones are left out; 2 others would not do alone, however wide."))
-
-    def test_all_clocks_where_one_needs_no_more(self) -> None:
-        told = self.told("delays none", "stamps 24 ns", "rates 9 ppb", "stamps web 24 ns", "rates web 10 ppb", "stamps db 48 ns", "rates db 9 ppb")
-        self.assertEqual([it.partition(" of ")[2] for it in told[1:-1]], ["db's clock greater by 9 ppb", "web's clock greater by 10 ppb", "web's clock greater by 24 ns", "db's clock greater by 48 ns"])
-
-    def test_what_none_mends(self) -> None:
-        self.assertEqual(self.told("delays none", "stamps none"), ["No bounds of one kind, however wide, mend all that is contradicted (by `blame`)."])
-        self.assertEqual(blame_lines(read_blames(["blame none"])), [])
-
-    def test_the_program_is_asked(self) -> None:
-        chain = told_cycle(CYCLE.split("\n"))
-        cases = (
-            ('test "$(cat "$2")" = "$PROBLEM" && printf "blame stamps 24 ns\\nend\\n"', [self.FIRST, "  `early` and `late` of each clock greater by 24 ns"]),
-            ("echo usage: tracesync widen PROBLEM; exit 2", []), ("exit 9", []),
-        )  # fmt: skip
-        with tempfile.TemporaryDirectory() as room:
-            for text, wanted in cases:
-                with open(f"{room}/program", "w", encoding="utf-8") as it:
-                    it.write(f"#!/bin/sh\nPROBLEM='{FOLLOWED}'\n{text}\n")
-                os.chmod(it.name, 0o755)
-                found = told_cycle(CYCLE.split("\n"), FOLLOWED.split("\n"), program=it.name)
-                self.assertEqual(found[-len(wanted) or len(found) :], wanted)
-                self.assertEqual(len(found) - len(wanted), len(chain))
-            self.assertEqual(len(told_cycle(CYCLE.split("\n"), FOLLOWED.split("\n"), program=f"{room}/nosuch")), len(chain))
-        self.assertEqual(len(told_cycle(CYCLE.split("\n"), FOLLOWED.split("\n"), program=None)), len(chain))
 
 
 class Declarations(unittest.TestCase):

@@ -97,6 +97,14 @@ class NoMessages(unittest.TestCase):
             self.assertEqual([it.startswith("Most keys are used again: 2 keys have more than 4 events. So write window = NS at the top of hosts.toml, ") for it in lines],
                              [True] * is_told, (counts, messages, top))  # fmt: skip
 
+    def test_keys_that_stand_alone_name_the_offset(self) -> None:
+        for alone, messages, is_told in ((1, 0, True), (3, 2, True), (2, 2, False), (0, 0, False)):
+            report = {"alone": alone, "ambiguous": [], "messages": messages, "nokey": {}}
+            lines = [it for it in Shortfall([], {**declared(), "window": 5}, report, "hosts.toml").lines() if "offset" in it]
+            self.assertEqual([it.startswith(f"Most keys stand alone: {alone} key") for it in lines], [True] * is_told, (alone, messages))
+            told_cure = "never within the window. So write offset = NS at the clocks that are ahead, about, or a greater window at the top of hosts.toml."
+            self.assertTrue(all(it.endswith(told_cure) for it in lines))
+
     def test_addresses_that_were_not_found_out_have_words_for_the_declaration(self) -> None:
         pair = (bytes([10, 3, 1, 1]), bytes([10, 3, 2, 2]))
         self.assertEqual(unknown_lines([("a.b", [pair]), ("c", [])], "hosts.toml"),
