@@ -6,11 +6,13 @@ mod errors;
 mod heads;
 mod laws;
 mod order;
+mod start;
 mod stored;
 mod write;
 
 pub use errors::ArrangeError;
 pub use laws::{arranged_in_one_way, merged_captures_are_read};
-pub use order::arrange;
+pub use order::{arrange, sort};
+pub use start::Start;
 pub use stored::Stored;
 pub use write::write_capture;

@@ -51,8 +51,11 @@ fn merge_key(stored: &Stored) -> MergeKey
     }
 }
 
-// Sorts packets by what they are merged by. On an error they stay as they are.
-fn sort(alloc: Global, kept: &mut [Stored]) -> Result<(), AllocError>
+/// Sorts packets by what they are merged by: by their times, then by the places of their labels, then by their numbers there.
+///
+/// No two have the same place and the same number. An error comes only where memory runs out; then nothing is promised of
+/// their order.
+pub fn sort(alloc: Global, kept: &mut [Stored]) -> Result<(), AllocError>
     requires { AreApart (merge_keys (all_timed kept.old)) }
     ensures { OnOk result (IsArranged (all_timed kept.old) (all_timed kept.new)) }
 {

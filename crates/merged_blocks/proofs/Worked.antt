@@ -1,0 +1,55 @@
+-- Two packets of two labels, worked out.
+use Rattle.std.proofs.Common.{◌≡◌, ◌⊎◌, inl, inr, ℕ, zero, suc, ℤ, pos, negsuc, List, [], ◌∷◌, codes, Contains, AllPairs, refl, arith}
+use Rattle.problem_model.specs.declared.items.Clock.{Clock}
+use Rattle.packets.specs.Packets.{Seen}
+use Rattle.mergecap.specs.MergedCapture.{Timed, whole_nanos}
+use Rattle.pcapng_blocks.specs.Bytes.{SaidPacket}
+use Rattle.merged_blocks.specs.declared.taps.Tap.{Tap}
+use Rattle.merged_blocks.specs.Taps.{AreTapsOf, StandsBefore, number_of, tap_of}
+use Rattle.merged_blocks.specs.Descriptions.{clock_words}
+use Rattle.merged_blocks.specs.MergedFile.{HasStamp, date_of, dated_packet}
+
+-- at 10 ns less 1 unit a packet of 2 of 60 bytes under the label at place 1, and one at 0 under that at place 0
+abbrev late : Timed
+late = record { key = record { value = pos 9999999999; place = 1; n = 1 }; packet = let p : Seen = record { stamp = 7; link = 101; original_length = 60; bytes = 8 ∷ 9 ∷ [] } in p }
+
+abbrev early : Timed
+early = record { key = record { value = pos 0; place = 0; n = 1 }; packet = let p : Seen = record { stamp = 7; link = 1; original_length = 0; bytes = [] } in p }
+
+abbrev taps : List Tap
+taps = record { place = 0; link = 1 } ∷ record { place = 1; link = 101 } ∷ []
+
+sorted : AllPairs StandsBefore taps
+sorted zero zero d below inside = absurd (omega (arith, below))
+sorted zero (suc zero) d below inside = inl (omega arith)
+sorted zero (suc (suc j)) d below inside = absurd (omega (arith, inside))
+sorted (suc i) zero d below inside = absurd (omega (arith, below))
+sorted (suc i) (suc zero) d below inside = absurd (omega (arith, below))
+sorted (suc i) (suc (suc j)) d below inside = absurd (omega (arith, inside))
+
+every : (t : Timed) → Contains (early ∷ late ∷ []) t → Contains taps (tap_of t)
+every t (zero, inside, is) = (0, omega arith, rw (← is) refl)
+every t (suc zero, inside, is) = (1, omega arith, rw (← is) refl)
+every t (suc (suc k), inside, is) = absurd (omega (arith, inside))
+
+each : (tap : Tap) → Contains taps tap → (t : Timed) × Contains (early ∷ late ∷ []) t × (tap_of t ≡ tap)
+each tap (zero, inside, is) = (early, (0, omega arith, refl), is)
+each tap (suc zero, inside, is) = (late, (1, omega arith, refl), is)
+each tap (suc (suc k), inside, is) = absurd (omega (arith, inside))
+
+worked-taps : AreTapsOf (early ∷ late ∷ []) taps
+worked-taps = record { each = each; every = every; sorted = sorted }
+
+worked-number : number_of taps (tap_of late) ≡ 1
+worked-number = refl
+
+-- dates are 100 ns more than times: the packet is at 109 ns, rounded down
+worked-packet : dated_packet taps (pos 100000000000) late ≡ record { interface = 1; stamp = 109; original = 60; bytes = 8 ∷ 9 ∷ []; comment = [] }
+worked-packet = refl
+
+-- and 1 ns less than times the first packet has no date
+worked-early : HasStamp (negsuc 999999999) early → ⊥
+worked-early has = let low = has.low in absurd (omega (arith, low))
+
+worked-words : clock_words (codes "h") (record { name = codes "c"; rate = record { short = 5; long = 0 }; early = 0; late = 12 }) ≡ codes "h clock c short 5 ppb long 0 ppb early 0 ns late 12 ns"
+worked-words = refl

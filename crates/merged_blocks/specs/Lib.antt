@@ -1,0 +1,5 @@
+pub mod Taps
+pub mod Descriptions
+pub mod MergedFile
+pub mod Reading
+pub mod Ready

@@ -1,0 +1,75 @@
+-- Merged packets as one file of pcapng, each with its date: its time, and so much more as the dates are behind the times.
+use Rattle.std.specs.Prelude.{ℕ, ◌*◌, ◌^◌, ◌<◌, ◌≤◌, ◌⊎◌, List, [], length, map, All, Any, ℤ, pos, ◌+ℤ◌, ◌≤ℤ◌, ◌<ℤ◌}
+use Rattle.decl.specs.Declaration.{Declaration}
+use Rattle.mergecap.specs.MergedCapture.{Timed, whole_nanos}
+use Rattle.pcapng_blocks.specs.Bytes.{SaidPacket}
+use Rattle.pcapng_blocks.specs.File.{Said}
+use Rattle.merged_blocks.specs.declared.taps.Tap.{Tap}
+use Rattle.merged_blocks.specs.declared.dates.DateError.{DateError}
+use Rattle.merged_blocks.specs.declared.dates.DateError.TheVariants.{Range, Memory}
+use Rattle.merged_blocks.specs.Taps.{AreTapsOf, number_of, tap_of}
+use Rattle.merged_blocks.specs.Descriptions.{tap_interface}
+
+-- ---- dates
+-- the date of a packet, in units of 1e-9 ns: its time, and so much more
+abbrev pub date_of : ℤ → Timed → ℤ
+date_of shift t = t.key.value +ℤ shift
+
+-- 2^64 ns in units of 1e-9 ns
+abbrev pub date_limit : ℤ
+date_limit = pos (2 ^ 64 * 10 ^ 9)
+
+-- a stamp can say the date: it is not below 0, and its whole ns have 64 bits
+pub record HasStamp (shift : ℤ) (t : Timed) : Type 0 where
+  pub low : pos 0 ≤ℤ date_of shift t
+  pub high : date_of shift t <ℤ date_limit
+
+-- no stamp can say it
+abbrev pub HasNoStamp : ℤ → Timed → Type 0
+HasNoStamp shift t = (date_of shift t <ℤ pos 0) ⊎ (date_limit ≤ℤ date_of shift t)
+
+-- ---- the file
+-- a packet under the interface of its tap, with its date as its stamp, rounded down to whole ns, and with both its lengths
+abbrev pub dated_packet : List Tap → ℤ → Timed → SaidPacket
+dated_packet taps shift t = record {
+  interface = number_of taps (tap_of t);
+  stamp = whole_nanos (date_of shift t);
+  original = t.packet.original_length;
+  bytes = t.packet.bytes;
+  comment = [];
+}
+
+-- one section, an interface for each tap, and the packets in their order
+abbrev pub merged_file : Declaration → List Tap → ℤ → List Timed → Said
+merged_file d taps shift ts = record { comment = []; interfaces = map (tap_interface d) taps; packets = map (dated_packet taps shift) ts }
+
+-- ---- packets that have a file
+-- the link type of a packet has 16 bits, and its original length 32
+pub record FitsFields (t : Timed) : Type 0 where
+  pub link : t.packet.link < 65536
+  pub original : t.packet.original_length < 2 ^ 32
+
+-- the time of a packet is not below 0, and its date and its fields can be written
+pub record IsDated (shift : ℤ) (t : Timed) : Type 0 where
+  pub value : pos 0 ≤ℤ t.key.value
+  pub stamp : HasStamp shift t
+  pub fields : FitsFields t
+
+-- the most taps that a reader takes
+abbrev pub most_taps : ℕ
+most_taps = 65536
+
+-- these are the taps of packets of which each can be written, and a reader takes as many
+pub record AreDated (ts : List Timed) (taps : List Tap) (shift : ℤ) : Type 0 where
+  pub each : All (IsDated shift) ts
+  pub are_taps : AreTapsOf ts taps
+  pub few : length taps ≤ most_taps
+
+-- packets have more taps than a reader takes
+abbrev pub HasManyTaps : List Timed → Type 0
+HasManyTaps ts = (taps : List Tap) × AreTapsOf ts taps × (most_taps < length taps)
+
+-- why packets have no file; want of memory says nothing
+abbrev pub IsDateFault : List Timed → ℤ → DateError → Type 0
+IsDateFault ts shift Range = Any (HasNoStamp shift) ts ⊎ HasManyTaps ts
+IsDateFault ts shift Memory = Unit {0}
