@@ -19,8 +19,10 @@ mod BroughtPackets
 mod TakenUnder
 mod TakingOver
 mod Settles
+mod FirstEvents
 pub mod FromSlots
 pub mod Scripts
 pub mod Replies
 pub mod Places
 pub mod Endings
+mod StartDates

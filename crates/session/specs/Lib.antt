@@ -8,3 +8,5 @@ pub mod TakingInside
 pub mod Script
 pub mod Stopping
 pub mod Turns
+pub mod Dates
+pub mod Firsts

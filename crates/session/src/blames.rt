@@ -34,8 +34,8 @@ fn write_text<O: Sink, L: Ledger>(
     written(write_whole(out, &text))
 }
 
-/// Writes what is to blame in the problem of what a roster holds, which is solved anew for it. The problem and the whole
-/// text are held in memory before anything is written.
+/// Writes what is to blame in the problem of what a roster holds, which is solved anew for it. The problem and the
+/// whole text are held in memory before anything is written.
 pub(crate) fn write_blame<O: Sink, L: Ledger>(
     alloc: Global,
     roster: &Roster,

@@ -33,6 +33,7 @@ mod pieces;
 mod reports;
 mod script;
 mod session;
+mod starts;
 
 pub use ended::Ended;
 pub use kept_packets::AddAnswer;

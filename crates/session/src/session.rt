@@ -95,9 +95,9 @@ impl Session {
     /// before answered `Memory`.
     ///
     /// `WriteFault` is answered only where the sink's count of faults rose, or stands at its last value: a front of the
-    /// reply is then written, and the session is as if all of it were. `Memory` is answered where memory runs out, which it
-    /// may on `add`, `keep`, `merge`, `report` and `blame` alone: nothing is written then, and nothing is promised of the
-    /// session.
+    /// reply is then written, and the session is as if all of it were. `Memory` is answered where memory runs out,
+    /// which it may on `add`, `keep`, `merge`, `report` and `blame` alone: nothing is written then, and nothing is
+    /// promised of the session.
     pub fn step<F: Files, O: Sink, L: Ledger>(
         &mut self,
         line: &[u8],
