@@ -14,7 +14,7 @@ use Rattle.decl.specs.declared.errors.DeclError.TheVariants as faults
 use Rattle.decl.specs.declared.errors.Section.{Section}
 use Rattle.session.specs.Script.{Devices, OfScript, Replied}
 use Rattle.commands.specs.Asked.{Asked, help_text, version_text}
-use Rattle.commands.specs.Asked.Asked.{Obey, Solve, Ends, Verify, Session, Trial, Widen, Judge, Blame, Mergecap, Help, Version, Nothing}
+use Rattle.commands.specs.Asked.Asked.{Obey, Solve, Ends, Verify, Session, Trial, Widen, Judge, Blame, Mergecap, MergeDated, Help, Version, Nothing}
 use Rattle.commands.specs.Runs.{Answers}
 use Rattle.commands.specs.Complete.{Holds, HoldsProblem, IsExecutionText, IsCertText, IsWideningText, IsLawfulInput, IsFaultless, IsAnswered}
 use Rattle.problem_commands.specs.ForProblem.{ForProblem}
@@ -24,6 +24,7 @@ use Rattle.merge_script.specs.Gathered as merging
 use Rattle.merge_script.specs.declared.unmerged.Unmerged.TheVariants as whys
 use Rattle.commands.specs.declared.declaration.Undeclared.TheVariants as undeclared
 use Rattle.commands.specs.MergedCapture.{MergedOver, MergedAt}
+use Rattle.commands.specs.DatedCapture.{DatedOver, DatedAt}
 use Rattle.problem_commands.specs.Obey.{Obeyed}
 use Rattle.problem_commands.specs.Printing.{Prints, Closes}
 use Rattle.commands.specs.Sessions.{IsFaultAt, TellsSession, Conducted}
@@ -289,6 +290,29 @@ module _ (files files' : FilesTold) (input input' : SourceTold) (out out' : Sink
       → Prints (MergedAt decl (reads files input) (reads files' input')) out out' result → IsAnswered result
   mergecap_answered decl result lawful = printed (MergedAt decl (reads files input) (reads files' input')) out out' result (merged_goes decl lawful.0 lawful.1) no_write
 
+  -- the same with dates
+  dated_over_goes : (d : Declaration) → IsSomeAnd input.left (λ bytes. length bytes ≤ most_taken) → (status : Status) (text : List ℕ) → DatedOver d (reads files input) (reads files' input') status text → IsAnswered status
+  dated_over_goes d short status text (inl (ordered, taps, shift, merges, written, back, only)) = inl only.0
+  dated_over_goes d short status text (inr (whys.Refused said, not, tells)) = inr (inr (inr tells.0))
+  dated_over_goes d short status text (inr (whys.Size, not, tells)) = inr (inr (inr tells.0))
+  dated_over_goes d short status text (inr (whys.Inconsistent, not, tells)) = inr (inr (inr tells.0))
+  dated_over_goes d short status text (inr (whys.Links, not, tells)) = absurd not
+  dated_over_goes d short status text (inr (whys.Range, not, tells)) = inr (inr (inr tells.0))
+  dated_over_goes d short status text (inr (whys.ReadFault, not, tells)) = absurd (no_read not.0)
+  dated_over_goes d short status text (inr (whys.Limit, not, tells)) = absurd (long_merge d input.left short not)
+  dated_over_goes d short status text (inr (whys.Memory, not, tells)) = absurd tells
+
+  dated_goes : (decl : List ℕ) → ((d : Declaration) × Holds files.content decl (λ bytes. IsDocumentOf bytes d)) → IsSomeAnd input.left (λ bytes. length bytes ≤ most_taken) → (status : Status) (text : List ℕ) →
+      DatedAt decl (reads files input) (reads files' input') status text → IsAnswered status
+  dated_goes decl lawful short status text (inl (d, has, over)) = dated_over_goes d short status text over
+  dated_goes decl (d, held) short status text (inr (undeclared.Faulty number section index, fault, same, tells)) = absurd (merge_fault decl d number section index held fault)
+  dated_goes decl (d, held) short status text (inr (undeclared.Unread, missed, same, tells)) = absurd (not_missed (λ bytes. IsDocumentOf bytes d) decl files files' held no_file missed)
+  dated_goes decl lawful short status text (inr (undeclared.Memory, is, same, tells)) = absurd tells
+
+  dated_answered : (decl : List ℕ) (result : Status) → ((d : Declaration) × Holds files.content decl (λ bytes. IsDocumentOf bytes d)) × IsSomeAnd input.left (λ bytes. length bytes ≤ most_taken)
+      → Prints (DatedAt decl (reads files input) (reads files' input')) out out' result → IsAnswered result
+  dated_answered decl result lawful = printed (DatedAt decl (reads files input) (reads files' input')) out out' result (dated_goes decl lawful.0 lawful.1) no_write
+
 -- ---- whatever was asked for
 pub all_answered : HaveOneAnswer → (a : Asked) (old new : Devices) (result : Status) → Answers a old new result → IsLawfulInput a old.files.content old.input.left → IsFaultless old new → IsAnswered result
 all_answered law (Obey problem exec) old new result answers lawful none = obey_answered law old new none problem exec result lawful answers
@@ -302,6 +326,8 @@ all_answered law (Judge problem widening) old new result answers lawful none = j
 all_answered law (Blame problem) old new result answers lawful none = blame_answered law old new none problem result lawful answers
 all_answered law (Mergecap decl) old new result answers lawful none =
     mergecap_answered old.files new.files old.input new.input old.out new.out none.files none.input none.out decl result lawful answers
+all_answered law (MergeDated decl) old new result answers lawful none =
+    dated_answered old.files new.files old.input new.input old.out new.out none.files none.input none.out decl result lawful answers
 all_answered law Help old new result answers lawful none = help_answered old new none help_text result answers
 all_answered law Version old new result answers lawful none = help_answered old new none version_text result answers
 all_answered law Nothing old new result answers lawful none = absurd lawful

@@ -4,6 +4,7 @@ pub mod Conducting
 pub mod OneText
 pub mod Completing
 mod MergedScripts
+mod DatedScripts
 mod Wholes
 mod Worked
 mod Requests

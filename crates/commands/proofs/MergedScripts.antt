@@ -62,7 +62,7 @@ module _ (d : Declaration) (files begun after : FilesTold) (input input' : Sourc
   long_since : (script : List ℕ) → IsScriptTooLong d (reads begun input) (reads after input') script → IsScriptTooLong d (reads files input) (reads after input') script
   long_since script a = record { long = a.long; state = a.state; adds = adds_since (whole_lines (take most_taken script)) a.state a.adds }
 
-  all_since : (Says : List (List Seen) → List Timed → Type 0) → OfScript input.left (OfAllAdded d (reads begun input) (reads after input') Says) → OfScript input.left (OfAllAdded d (reads files input) (reads after input') Says)
+  pub all_since : (Says : List (List Seen) → List Timed → Type 0) → OfScript input.left (OfAllAdded d (reads begun input) (reads after input') Says) → OfScript input.left (OfAllAdded d (reads files input) (reads after input') Says)
   all_since Says is = of_script input.left (OfAllAdded d (reads begun input) (reads after input') Says) (OfAllAdded d (reads files input) (reads after input') Says)
       (λ script a. record { state = a.state; adds = script_since a.state script a.adds; all = a.all; are = a.are; says = a.says }) is
 

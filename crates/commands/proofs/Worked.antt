@@ -1,7 +1,7 @@
 -- What the words of each command ask for.
 use Rattle.std.proofs.Common.{◌≡◌, ℕ, List, [], ◌∷◌, codes, refl}
 use Rattle.commands.specs.Asked.{Asked, asked_of}
-use Rattle.commands.specs.Asked.Asked.{Obey, Solve, Ends, Verify, Session, Trial, Widen, Judge, Blame, Mergecap, Help, Version, Nothing}
+use Rattle.commands.specs.Asked.Asked.{Obey, Solve, Ends, Verify, Session, Trial, Widen, Judge, Blame, Mergecap, MergeDated, Help, Version, Nothing}
 
 obey : (problem exec : List ℕ) → asked_of (codes "obey" ∷ problem ∷ exec ∷ []) ≡ Obey problem exec
 obey problem exec = refl
@@ -45,6 +45,13 @@ blame problem = refl
 
 mergecap : (decl : List ℕ) → asked_of (codes "mergecap" ∷ decl ∷ []) ≡ Mergecap decl
 mergecap decl = refl
+
+merge_dated : (decl : List ℕ) → asked_of (codes "mergecap" ∷ decl ∷ codes "pcapng" ∷ []) ≡ MergeDated decl
+merge_dated decl = refl
+
+-- a format that there is not
+no_format : (decl : List ℕ) → asked_of (codes "mergecap" ∷ decl ∷ codes "pcap" ∷ []) ≡ Nothing
+no_format decl = refl
 
 help : asked_of (codes "--help" ∷ []) ≡ Help
 help = refl

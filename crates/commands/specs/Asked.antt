@@ -19,6 +19,7 @@ pub data Asked : Type 0 where
   Judge : List ℕ → List ℕ → Asked
   Blame : List ℕ → Asked
   Mergecap : List ℕ → Asked
+  MergeDated : List ℕ → Asked
   Help : Asked
   Version : Asked
   Nothing : Asked
@@ -42,6 +43,10 @@ widen_link problem kind from to =
     if bytes_eq kind (codes "delays") then Widen problem (codes "delays" ∷ from ∷ to ∷ [])
     else if bytes_eq kind (codes "least") then Widen problem (codes "least" ∷ from ∷ to ∷ []) else Nothing
 
+-- the merged capture in a format of its own
+abbrev pub merge_as : List ℕ → List ℕ → Asked
+merge_as decl format = if bytes_eq format (codes "pcapng") then MergeDated decl else Nothing
+
 -- what a first word asks for, by the words behind it; without more `widen` asks for all greatest delays
 abbrev pub asked_by : List ℕ → List (List ℕ) → Asked
 asked_by name [] = if bytes_eq name (codes "--help") then Help else if bytes_eq name (codes "--version") then Version else Nothing
@@ -56,7 +61,8 @@ asked_by name (a ∷ b ∷ []) =
     if bytes_eq name (codes "obey") then Obey a b
     else if bytes_eq name (codes "verify") then Verify a b
     else if bytes_eq name (codes "judge") then Judge a b
-    else if bytes_eq name (codes "widen") then widen_all a b else Nothing
+    else if bytes_eq name (codes "widen") then widen_all a b
+    else if bytes_eq name (codes "mergecap") then merge_as a b else Nothing
 asked_by name (a ∷ b ∷ c ∷ []) =
     if bytes_eq name (codes "ends") then Ends a b c
     else if bytes_eq name (codes "widen") then widen_clock a b c else Nothing
@@ -84,6 +90,7 @@ seen_request (request.WidenClock problem kind clock) = Widen problem.now (clocks
 seen_request (request.Judge problem widening) = Judge problem.now widening.now
 seen_request (request.Blame problem) = Blame problem.now
 seen_request (request.Mergecap decl) = Mergecap decl.now
+seen_request (request.MergeDated decl) = MergeDated decl.now
 seen_request request.Help = Help
 seen_request request.Version = Version
 seen_request request.Nothing = Nothing
@@ -100,12 +107,13 @@ ReadsNoFile _ = ⊥
 abbrev pub ReadsNoScript : Asked → Type 0
 ReadsNoScript (Session decl) = ⊥
 ReadsNoScript (Mergecap decl) = ⊥
+ReadsNoScript (MergeDated decl) = ⊥
 ReadsNoScript _ = ⊤
 
 -- ---- what is printed without a file
 -- where nothing that there is was asked for
 abbrev pub usage_line : List ℕ
-usage_line = codes "usage: tracesync obey PROBLEM EXEC | solve PROBLEM | ends PROBLEM P Q | verify PROBLEM CERT | session DECL | trial N | widen PROBLEM WHAT.. | judge PROBLEM WIDENING | blame PROBLEM | mergecap DECL | --help | --version\n"
+usage_line = codes "usage: tracesync obey PROBLEM EXEC | solve PROBLEM | ends PROBLEM P Q | verify PROBLEM CERT | session DECL | trial N | widen PROBLEM WHAT.. | judge PROBLEM WIDENING | blame PROBLEM | mergecap DECL [pcapng] | --help | --version\n"
 
 -- the commands, each with what it is for
 abbrev pub help_text : List ℕ
@@ -122,6 +130,7 @@ help_text =
     ++ codes "  judge PROBLEM WIDENING  whether what widen says is so; if not, the first reason why not\n"
     ++ codes "  blame PROBLEM           by how much bounds of each kind, clock and link must widen so that these alone heal a contradiction\n"
     ++ codes "  mergecap DECL < SCRIPT  the packets of all captures that SCRIPT adds, as one capture in the order of their events' times\n"
+    ++ codes "                          with `pcapng` behind DECL, as a file of pcapng: dates as stamps, an interface for each label\n"
     ++ codes "\n"
     ++ codes "DECL, PROBLEM, EXEC, CERT and WIDENING are paths of files, relative to where you stand; N is a number below 2^32. What is\n"
     ++ codes "asked for is printed on the standard output. With status 7 a file is not there or cannot be read, or a read of the script\n"

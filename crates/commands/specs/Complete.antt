@@ -15,7 +15,7 @@ use Rattle.widen.specs.declared.widening.Widening.{Widening}
 use Rattle.widen.specs.Named.{SaysWhat}
 use Rattle.session.specs.Script.{Devices}
 use Rattle.commands.specs.Asked.{Asked}
-use Rattle.commands.specs.Asked.Asked.{Obey, Solve, Ends, Verify, Session, Trial, Widen, Judge, Blame, Mergecap, Help, Version, Nothing}
+use Rattle.commands.specs.Asked.Asked.{Obey, Solve, Ends, Verify, Session, Trial, Widen, Judge, Blame, Mergecap, MergeDated, Help, Version, Nothing}
 use Rattle.commands.specs.Trials.{IsNumber}
 use Rattle.problem_commands.specs.Texts.{SpellsProblem, SpellsCert}
 use Rattle.problem_commands.specs.Widening.{SpellsWidening}
@@ -61,6 +61,7 @@ IsLawfulInput (Widen problem ws) files script = HoldsProblem files problem (λ p
 IsLawfulInput (Judge problem widening) files script = HoldsProblem files problem (λ p. Holds files widening (IsWideningText p))
 IsLawfulInput (Blame problem) files script = HoldsProblem files problem (λ p. Unit {0})
 IsLawfulInput (Mergecap decl) files script = HasScript files decl script
+IsLawfulInput (MergeDated decl) files script = HasScript files decl script
 IsLawfulInput Help files script = Unit {0}
 IsLawfulInput Version files script = Unit {0}
 IsLawfulInput Nothing files script = ⊥

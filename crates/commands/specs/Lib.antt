@@ -4,3 +4,4 @@ pub mod Sessions
 pub mod Complete
 pub mod MergedCapture
 pub mod Runs
+pub mod DatedCapture

@@ -15,11 +15,12 @@ use Rattle.problem_commands.specs.Verify.{Verified}
 use Rattle.problem_commands.specs.Widening.{WideningFound, WideningJudged}
 use Rattle.problem_commands.specs.Blame.{Blamed}
 use Rattle.commands.specs.Asked.{Asked, asked_of, ReadsNoFile, ReadsNoScript, usage_line, help_text, version_text}
-use Rattle.commands.specs.Asked.Asked.{Obey, Solve, Ends, Verify, Session, Trial, Widen, Judge, Blame, Mergecap, Help, Version, Nothing}
+use Rattle.commands.specs.Asked.Asked.{Obey, Solve, Ends, Verify, Session, Trial, Widen, Judge, Blame, Mergecap, MergeDated, Help, Version, Nothing}
 use Rattle.commands.specs.Sessions.{Conducted}
 use Rattle.commands.specs.Trials.{TriedBy}
 use Rattle.commands.specs.Complete.{IsLawfulInput, IsFaultless, IsAnswered}
 use Rattle.commands.specs.MergedCapture.{MergedAt, NotedAt}
+use Rattle.commands.specs.DatedCapture.{DatedAt}
 
 -- what a run that was asked for this prints, and with which status, over these devices before and after
 abbrev pub Answers : Asked → Devices → Devices → Status → Type 0
@@ -33,6 +34,7 @@ Answers (Widen problem ws) old new result = Prints (WideningFound problem ws old
 Answers (Judge problem widening) old new result = Prints (WideningJudged problem widening old.files new.files) old.out new.out result
 Answers (Blame problem) old new result = Prints (Blamed problem old.files new.files) old.out new.out result
 Answers (Mergecap decl) old new result = Prints (MergedAt decl (reads old.files old.input) (reads new.files new.input)) old.out new.out result
+Answers (MergeDated decl) old new result = Prints (DatedAt decl (reads old.files old.input) (reads new.files new.input)) old.out new.out result
 Answers Help old new result = Closes help_text Done old.out new.out result
 Answers Version old new result = Closes version_text Done old.out new.out result
 Answers Nothing old new result = Closes usage_line Usage old.out new.out result
@@ -40,6 +42,7 @@ Answers Nothing old new result = Closes usage_line Usage old.out new.out result
 -- what it notes beside that, on a sink of its own: a merge alone notes something
 abbrev pub Notes : Asked → Devices → Devices → SinkTold → SinkTold → Status → Type 0
 Notes (Mergecap decl) old new before after result = NotedAt decl (reads old.files old.input) (reads new.files new.input) before after result
+Notes (MergeDated decl) old new before after result = NotedAt decl (reads old.files old.input) (reads new.files new.input) before after result
 Notes _ old new before after result = after ≡ before
 
 -- what a run of these words over these devices prints, notes, reads and answers: the promises of `run`, one after another

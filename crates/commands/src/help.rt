@@ -3,7 +3,7 @@ ghost use Rattle.std.specs.Prelude.{◌≡◌};
 ghost use Rattle.commands.specs.Asked.{help_text, usage_line, version_text};
 
 const USAGE: &[u8] =
-    b"usage: tracesync obey PROBLEM EXEC | solve PROBLEM | ends PROBLEM P Q | verify PROBLEM CERT | session DECL | trial N | widen PROBLEM WHAT.. | judge PROBLEM WIDENING | blame PROBLEM | mergecap DECL | --help | --version\n";
+    b"usage: tracesync obey PROBLEM EXEC | solve PROBLEM | ends PROBLEM P Q | verify PROBLEM CERT | session DECL | trial N | widen PROBLEM WHAT.. | judge PROBLEM WIDENING | blame PROBLEM | mergecap DECL [pcapng] | --help | --version\n";
 
 // The number of the newest entry of CHANGELOG.md.
 const VERSION: &[u8] = b"tracesync 26\n";
@@ -22,6 +22,7 @@ const HELP: &[u8] = br"usage: tracesync COMMAND WORD..
   judge PROBLEM WIDENING  whether what widen says is so; if not, the first reason why not
   blame PROBLEM           by how much bounds of each kind, clock and link must widen so that these alone heal a contradiction
   mergecap DECL < SCRIPT  the packets of all captures that SCRIPT adds, as one capture in the order of their events' times
+                          with `pcapng` behind DECL, as a file of pcapng: dates as stamps, an interface for each label
 
 DECL, PROBLEM, EXEC, CERT and WIDENING are paths of files, relative to where you stand; N is a number below 2^32. What is
 asked for is printed on the standard output. With status 7 a file is not there or cannot be read, or a read of the script

@@ -3,6 +3,7 @@
 //! their own.
 #![tactic(auto)]
 
+mod dated;
 mod declaration;
 mod help;
 mod lines;

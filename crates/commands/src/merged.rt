@@ -38,8 +38,8 @@ fn close_reply<O: Sink>(reply: &[u8], out: &mut O) -> Status
     }
 }
 
-// Prints why packets are not merged, and answers the status.
-fn tell<O: Sink>(why: Unmerged, out: &mut O) -> Status
+/// Prints why packets are not merged, and answers the status.
+pub fn tell<O: Sink>(why: Unmerged, out: &mut O) -> Status
     ensures { Prints (TellsUnmerged why) (O.told out.old) (O.told out.new) result }
 {
     match why {

@@ -6,6 +6,7 @@ ghost use Rattle.commands.specs.Asked.{asked_of, seen_request, ReadsNoFile, Read
 ghost use Rattle.commands.specs.Runs.{Answers, Notes};
 ghost use Rattle.commands.specs.Complete.{IsLawfulInput, IsFaultless, IsAnswered};
 
+use crate::dated::mergecap_dated;
 use crate::declaration::DeclFile;
 use crate::help::{help, usage, version};
 use crate::merged::mergecap;
@@ -102,6 +103,10 @@ fn run_counted<F: Files, I: Source, O: Sink, N: Sink, L: Ledger>(
             let file = DeclFile { alloc, path: decl };
             mergecap(&file, files, input, out, &mut steps, notes)
         }
+        Request::MergeDated { decl } => {
+            let file = DeclFile { alloc, path: decl };
+            mergecap_dated(&file, files, input, out, &mut steps, notes)
+        }
         Request::Help => finish(help(), Status::Done, out),
         Request::Version => finish(version(), Status::Done, out),
         Request::Nothing => finish(usage(), Status::Usage, out),
@@ -122,8 +127,8 @@ fn run_counted<F: Files, I: Source, O: Sink, N: Sink, L: Ledger>(
 /// `blame PROBLEM` prints by how much all delays, stamps, rates or gaps, or those of one clock or of the messages from
 /// one clock to another, must be widened at least so that this alone heals a contradiction; `mergecap DECL` adds what
 /// the lines of the input say, each an `add`, in a session over the declaration, and prints the packets of all captures
-/// as one, in the order of their events' times; `--help` prints the commands, each with what it is for, `--version` the
-/// number of the version.
+/// as one, in the order of their events' times, with a third word `pcapng` as a file of pcapng, with their dates; `--help`
+/// prints the commands, each with what it is for, `--version` the number of the version.
 ///
 /// `Usage` comes where the words are of no form, `BadDecl`, `BadProblem`, `BadExec` and `BadCert` where a text is
 /// refused, `UnknownName` where the problem has no event or no clock of a name, `ReadFault` where a named file is not

@@ -1,6 +1,6 @@
 // What the words of a command line ask for.
 ghost use Rattle.std.specs.Prelude.{◌≡◌, [], ◌∷◌};
-ghost use Rattle.commands.specs.Asked.{asked_by, asked_of, seen_request, widen_all, widen_clock, widen_link};
+ghost use Rattle.commands.specs.Asked.{asked_by, asked_of, merge_as, seen_request, widen_all, widen_clock, widen_link};
 
 use ports::Words;
 use problem_commands::what_words::{KindOfClocks, KindOfLinks};
@@ -74,6 +74,10 @@ pub enum Request<'a> {
     },
     /// `mergecap DECL`.
     Mergecap {
+        decl: &'a str,
+    },
+    /// `mergecap DECL pcapng`.
+    MergeDated {
         decl: &'a str,
     },
     /// `--help`.
@@ -161,6 +165,16 @@ fn widen_link<'a>(problem: &'a str, kind: &str, from: &'a str, to: &'a str) -> R
     }
 }
 
+// What `mergecap` asks for with a format.
+fn merge_as<'a>(decl: &'a str, format: &str) -> Request<'a>
+    ensures { seen_request result ≡ merge_as decl.now format.now }
+{
+    match format {
+        "pcapng" => Request::MergeDated { decl },
+        _ => Request::Nothing,
+    }
+}
+
 // What a word with one more asks for.
 fn asked_of_one<'a>(name: &str, first: &'a str) -> Request<'a>
     ensures { seen_request result ≡ asked_by name.now (first.now ∷ []) }
@@ -197,6 +211,7 @@ fn asked_of_two<'a>(name: &str, first: &'a str, second: &'a str) -> Request<'a>
             widening: second,
         },
         "widen" => widen_all(first, second),
+        "mergecap" => merge_as(first, second),
         _ => Request::Nothing,
     }
 }

@@ -3,3 +3,4 @@ mod AllPackets
 mod Adding
 mod Merges
 mod Noted
+mod DatedMerges

@@ -4,9 +4,11 @@
 
 mod added_packets;
 mod arrangement;
+mod dated;
 mod notes;
 mod sizes;
 mod unmerged;
 
 pub use arrangement::merge_script;
+pub use dated::date_script;
 pub use unmerged::Unmerged;
