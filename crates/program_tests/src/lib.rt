@@ -3,13 +3,15 @@
 //! `commands_over_problems` has the commands over a problem, `following_clocks` those over clocks that follow each
 //! other, `sessions` those over a declaration, `long_sessions` one over a log of thousands of rows,
 //! `verified_certificates` those over a certificate, with its table `verify_cases`, `trials` the trials, `widenings`
-//! those over a widening, `merged_captures` merges, `passed_packets` a capture with packets that are passed over,
+//! those over a widening, `merged_captures` merges, `dated_captures` those with dates, `passed_packets` a capture with packets that are passed over,
 //! `failing_in_turn` has each call of a device fail; `runs` is how they are run, and `fixtures` has what several of
 //! them use.
 #![tactic(auto)]
 
 #[cfg(test)]
 mod commands_over_problems;
+#[cfg(test)]
+mod dated_captures;
 #[cfg(test)]
 mod failing_in_turn;
 #[cfg(test)]

@@ -18,18 +18,18 @@ const SLOW: &str = "[hosts.a]\naddresses = [\"10.0.0.1\"]\n[hosts.b]\naddresses 
     [[links]]\nfrom = \"a\"\nto = \"b\"\nleast = 1000000000\n";
 
 // Datagrams of UDP from 10.0.0.1:5000 to 10.0.0.2:6000, and back.
-const THERE: [u8; 28] = [
+pub(crate) const THERE: [u8; 28] = [
     0x45, 0, 0, 0x1c, 0, 7, 0, 0, 0x40, 0x11, 0, 0, 10, 0, 0, 1, 10, 0, 0, 2, 0x13, 0x88, 0x17,
     0x70, 0, 8, 0, 0,
 ];
 
-const BACK: [u8; 28] = [
+pub(crate) const BACK: [u8; 28] = [
     0x45, 0, 0, 0x1c, 0, 8, 0, 0, 0x40, 0x11, 0, 0, 10, 0, 0, 2, 10, 0, 0, 1, 0x17, 0x70, 0x13,
     0x88, 0, 8, 0, 0,
 ];
 
 // The time of a packet in seconds and ns, each as four bytes, the least one first.
-type Stamp = [u8; 8];
+pub(crate) type Stamp = [u8; 8];
 
 const AT_100: Stamp = [0, 0, 0, 0, 100, 0, 0, 0];
 
@@ -45,25 +45,25 @@ const LATEST: Stamp = [0xff, 0xff, 0xff, 0xff, 250, 0, 0, 0];
 
 // The captures of the two hosts, and what is merged of them.
 #[derive(Clone, Copy)]
-struct Captures {
+pub(crate) struct Captures {
     a: [Stamp; 2],
     b: [Stamp; 2],
     b_link: u8,
 }
 
-const LAWFUL: Captures = Captures {
+pub(crate) const LAWFUL: Captures = Captures {
     a: [AT_100, AT_180],
     b: [AT_250, AT_300],
     b_link: 101,
 };
 
-const HELD_UP: Captures = Captures {
+pub(crate) const HELD_UP: Captures = Captures {
     a: [AT_100, AT_195],
     b: [AT_250, AT_300],
     b_link: 101,
 };
 
-const OTHER_LINK: Captures = Captures {
+pub(crate) const OTHER_LINK: Captures = Captures {
     a: [AT_100, AT_180],
     b: [AT_250, AT_300],
     b_link: 1,
@@ -112,7 +112,11 @@ fn put_first(alloc: Global, path: &str, files: &mut MemFiles) -> Result<(), Allo
 }
 
 // The declaration, both captures, the first packet, a log and a file that is no capture.
-fn files_of(alloc: Global, decl: &str, captures: &Captures) -> Result<MemFiles, AllocError> {
+pub(crate) fn files_of(
+    alloc: Global,
+    decl: &str,
+    captures: &Captures,
+) -> Result<MemFiles, AllocError> {
     let mut files = MemFiles::new(alloc, &[])?;
     files.put("decl", decl.as_bytes())?;
     put_capture(alloc, "a", 101, &captures.a, &mut files)?;
