@@ -1,0 +1,225 @@
+#!/usr/bin/env python3
+"""Merges captures by `tracesync mergecap DECL pcapng`, and reads the outcome by a reader of its own.
+
+    tests/dated_captures.py
+
+Each packet must stand there once, in the order of the reply to `merge` of a session over the same script, with both its
+lengths, under the interface of its label and its link type; an interface has its label's name, its host, its clock and
+the bounds of that, and counts ns. A stamp must be the date that the session gives: that of the first event, by `time`
+where its clock's source tells it and else by its own stamp, and what `merge` has between the two, rounded down to ns.
+Where capinfos and tshark are installed, they must count and stamp the packets in the same way. PROGRAM names the
+program, else it is the one that is built here. Prints a line for each case, and with status 1 the first one that is
+otherwise.
+"""
+
+import struct
+import subprocess
+import sys
+import tempfile
+import tomllib
+from collections.abc import Sequence
+from dataclasses import dataclass
+from fractions import Fraction
+
+from support.captures import SECTION, block, blocks, classic, frame
+from support.program import TOP, program, read, write
+from support.replies import answered, script_of
+from support.wireshark import is_there, packets_of, tool
+
+EXAMPLES = f"{TOP}/examples"
+HOSTS = f"{EXAMPLES}/captures/hosts.toml"
+LEFT, RIGHT = (f"add {it} {EXAMPLES}/captures/{it}.pcap" for it in ("left", "right"))
+DUAL = [f"add left {EXAMPLES}/dual/left.pcap", f"add right {EXAMPLES}/dual/right-any2.pcap"]
+PLAIN = '[hosts.left]\nshort = 5\nlate = 7\n[labels.left]\nhost = "left"\nkind = "capture"\n'
+# A 64th of a second, which a classic capture in us cannot say.
+FINE = 10**9 // 64
+
+
+@dataclass(frozen=True)
+class Packet:
+    """A packet: its link type, both its lengths, and its bytes."""
+
+    link: int
+    kept: int
+    length: int
+    data: bytes
+
+
+@dataclass(frozen=True)
+class Interface:
+    """An interface: its link type, the bytes that are captured at most, and its options by code."""
+
+    link: int
+    snaplen: int
+    options: dict[int, bytes]
+
+
+def options_of(body: bytes) -> dict[int, bytes]:
+    """Options by their codes, up to the end of them."""
+    found: dict[int, bytes] = {}
+    at = 0
+    while at + 4 <= len(body):
+        code, size = struct.unpack_from("<HH", body, at)
+        if code == 0:
+            break
+        found[code] = body[at + 4 : at + 4 + size]
+        at += 4 + size + -size % 4
+    return found
+
+
+def blocks_of(data: bytes) -> list[tuple[int, bytes]]:
+    """The blocks of a file of little-endian pcapng: the type and the body of each."""
+    found: list[tuple[int, bytes]] = []
+    at = 0
+    while at < len(data):
+        kind, size = struct.unpack_from("<II", data, at)
+        assert size % 4 == 0 and data[at + size - 4 : at + size] == data[at + 4 : at + 8], at
+        found.append((kind, data[at + 8 : at + size - 4]))
+        at += size
+    return found
+
+
+def file_of(data: bytes) -> tuple[list[Interface], list[tuple[int, int, Packet]]]:
+    """The interfaces of a file of one section, and its packets, each with the number of its interface and its stamp."""
+    (first, head), *rest = blocks_of(data)
+    assert first == 0x0A0D0D0A and head == struct.pack("<IHHq", 0x1A2B3C4D, 1, 0, -1), head
+    interfaces: list[Interface] = []
+    packets: list[tuple[int, int, Packet]] = []
+    for kind, body in rest:
+        if kind == 1:
+            link, _, snaplen = struct.unpack_from("<HHI", body)
+            interfaces.append(Interface(link, snaplen, options_of(body[8:])))
+        else:
+            assert kind == 6, kind
+            number, high, low, kept, length = struct.unpack_from("<IIIII", body)
+            packet = Packet(interfaces[number].link, kept, length, body[20 : 20 + kept])
+            packets.append((number, high << 32 | low, packet))
+    return interfaces, packets
+
+
+def captured(data: bytes) -> list[Packet]:
+    """The packets of a little-endian capture, classic or of pcapng."""
+    if data[:4] == SECTION[:4]:
+        return [packet for _, _, packet in file_of_any(data)]
+    link = int.from_bytes(data[20:24], "little")
+    found: list[Packet] = []
+    at = 24
+    while at + 16 <= len(data):
+        kept, length = struct.unpack_from("<II", data, at + 8)
+        found.append(Packet(link, kept, length, data[at + 16 : at + 16 + kept]))
+        at += 16 + kept
+    return found
+
+
+def file_of_any(data: bytes) -> list[tuple[int, int, Packet]]:
+    """The enhanced packets of a file of one section, whatever stands beside them."""
+    links: list[int] = []
+    found: list[tuple[int, int, Packet]] = []
+    for kind, body in blocks_of(data):
+        if kind == 1:
+            links.append(int.from_bytes(body[:2], "little"))
+        elif kind == 6:
+            number, high, low, kept, length = struct.unpack_from("<IIIII", body)
+            found.append((number, high << 32 | low, Packet(links[number], kept, length, body[20 : 20 + kept])))
+    return found
+
+
+def description(declaration: str, label: str) -> str:
+    """What must stand at the interfaces of a label: its host, its clock and the bounds of that."""
+    said = tomllib.loads(read(declaration).decode())
+    host = said["labels"][label]["host"]
+    numbers = {"short": 0, "long": 0, "early": 0, "late": 0} | said["hosts"][host]
+    bounds = " ".join(f"{it} {numbers[it]} {unit}" for it, unit in zip(("short", "long", "early", "late"), ("ppb", "ppb", "ns", "ns")))
+    return f"{host} clock {host} {bounds}"
+
+
+def start_of(declaration: str, lines: Sequence[str], first: str) -> Fraction:
+    """The date of the first event in ns: the least end of its time by the source, or its own stamp."""
+    *_, time, problem = answered(declaration, [*lines, f"time {first}", "problem"])
+    words = time[0].split(" ")
+    if words[0] == "time" and words[1] != "-inf":
+        return Fraction(words[1])
+    return Fraction(next(line.split(" ")[3] for line in problem if line.startswith(f"event {first} ")))
+
+
+def merges(folder: str, case: str, declaration: str, lines: Sequence[str]) -> None:
+    """Wants the file of these additions. Raises AssertionError where it is otherwise."""
+    done = subprocess.run([program(), "mergecap", declaration, "pcapng"], input=script_of(lines), capture_output=True)
+    assert done.returncode == 0, (case, done.returncode, done.stdout[:80])
+    merged = [line.split(" ") for line in answered(declaration, [*lines, "merge"])[-1][1:]]
+    times = {event: Fraction(time) for time, event, *_ in merged}
+    first = merged[0][1]
+    shift = start_of(declaration, lines, first) - times[first]
+    packets: dict[str, Packet] = {}
+    for _, label, path in (line.split(" ") for line in lines):
+        packets |= {f"{label}#{n}": packet for n, packet in enumerate(captured(read(path)), 1)}
+    order = [event for _, event, *_ in merged if event in packets]
+    taps = sorted({(event.split("#")[0], packets[event].link) for event in order})
+    interfaces, written = file_of(done.stdout)
+    wanted = [(taps.index((event.split("#")[0], packets[event].link)), (times[event] + shift) // 1, packets[event]) for event in order]
+    assert written == wanted, (case, "other packets", written[:2], wanted[:2])
+    said = [Interface(link, 0, {2: label.encode(), 3: description(declaration, label).encode(), 9: b"\x09"}) for label, link in taps]
+    assert interfaces == said, (case, interfaces, said)
+    read_again(case, write(f"{folder}/merged.pcapng", done.stdout), written)
+    print(f"{case}: {len(written)} packets under {len(interfaces)} interfaces, from {written[0][1]} ns on")
+
+
+def read_again(case: str, path: str, written: Sequence[tuple[int, int, Packet]]) -> None:
+    """Wants capinfos and tshark to read what was written, where they are installed."""
+    if not is_there("capinfos", "tshark"):
+        return
+    assert packets_of(path) == len(written), (case, "capinfos counts others")
+    fields = ("-e", "frame.interface_id", "-e", "frame.time_epoch", "-e", "frame.len", "-e", "frame.cap_len")
+    told = tool("tshark", "-r", path, "-T", "fields", *fields)
+    lines = [f"{number}\t{at // 10**9}.{at % 10**9:09}\t{it.length}\t{it.kept}" for number, at, it in written]
+    assert told.splitlines() == lines, (case, "tshark reads something else")
+
+
+def no_file(case: str, declaration: str, lines: Sequence[str], wanted: str, status: int = 12) -> None:
+    """Wants this line in place of a file."""
+    done = subprocess.run([program(), "mergecap", declaration, "pcapng"], input=script_of(lines), capture_output=True)
+    assert (done.stdout, done.returncode) == (f"{wanted}\n".encode(), status), (case, done)
+    print(f"{case}: `{wanted}`, status {status}")
+
+
+def empty(folder: str, stamps: Sequence[int]) -> str:
+    """A file of pcapng with an empty packet at each of these stamps."""
+    interface = struct.pack("<IIHHIHHB3xII", 1, 32, 1, 0, 0, 9, 1, 9, 0, 32)
+    return write(f"{folder}/empty", SECTION + interface + b"".join(block(stamp, b"") for stamp in stamps))
+
+
+def cases(folder: str) -> None:
+    merges(folder, "captures", HOSTS, [LEFT, RIGHT])
+    merges(folder, "captures, right first", HOSTS, [RIGHT, LEFT])
+    merges(folder, "captures, left's clock the source", f"{EXAMPLES}/captures/by-left.toml", [LEFT, RIGHT])
+    merges(folder, "pcapng", HOSTS, [f"add {it} {EXAMPLES}/pcapng/{it}.pcapng" for it in ("left", "right")])
+    merges(folder, "two link types", f"{EXAMPLES}/dual/hosts.toml", DUAL)
+    plain = write(f"{folder}/plain.toml", PLAIN)
+    fine = write(f"{folder}/fine", classic([(FINE, frame(1, 2, b"a")), (FINE * 3, frame(1, 2, b"b"))]))
+    merges(folder, "stamps of a 64th of a second", plain, [f"add left {fine}"])
+    merges(folder, "stamps of 0 and of 2^62 ns less 1", plain, [f"add left {empty(folder, [0, 2**62 - 1])}"])
+    one = write(f"{folder}/one", blocks([(5, frame(1, 2, b"a"))]))
+    merges(folder, "one packet", plain, [f"add left {one}"])
+    done = subprocess.run([program(), "mergecap", plain, "pcapng"], input=b"", capture_output=True)
+    assert (done.stdout, done.returncode) == (SECTION, 0), done
+    print("no line: a section alone")
+    no_file("a line that is no addition", plain, ["merge"], "refused 20")
+    far = read(HOSTS).decode().replace("least = 1", "least = 1_000_000")
+    no_file("a cable of 300 km", write(f"{folder}/far.toml", far), [LEFT, RIGHT], "inconsistent")
+    done = subprocess.run([program(), "mergecap", plain, "pcap"], input=b"", capture_output=True)
+    assert done.returncode == 2 and done.stdout.startswith(b"usage"), done
+    print("another format: usage")
+
+
+def main() -> int:
+    with tempfile.TemporaryDirectory() as folder:
+        try:
+            cases(folder)
+        except AssertionError as why:
+            print(f"dated_captures: {why}")
+            return 1
+    return 0
+
+
+if __name__ == "__main__":
+    sys.exit(main())
