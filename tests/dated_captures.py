@@ -129,8 +129,14 @@ def description(declaration: str, label: str) -> str:
     said = tomllib.loads(read(declaration).decode())
     host = said["labels"][label]["host"]
     numbers = {"short": 0, "long": 0, "early": 0, "late": 0} | said["hosts"][host]
-    bounds = " ".join(f"{it} {numbers[it]} {unit}" for it, unit in zip(("short", "long", "early", "late"), ("ppb", "ppb", "ns", "ns")))
+    units = {"short": "ppb", "long": "ppb", "early": "ns", "late": "ns"}
+    bounds = " ".join(f"{it} {numbers[it]} {unit}" for it, unit in units.items())
     return f"{host} clock {host} {bounds}"
+
+
+def described(declaration: str, label: str, link: int) -> Interface:
+    """The interface of a label for a link type."""
+    return Interface(link, 0, {2: label.encode(), 3: description(declaration, label).encode(), 9: b"\x09"})
 
 
 def start_of(declaration: str, lines: Sequence[str], first: str) -> Fraction:
@@ -142,8 +148,9 @@ def start_of(declaration: str, lines: Sequence[str], first: str) -> Fraction:
     return Fraction(next(line.split(" ")[3] for line in problem if line.startswith(f"event {first} ")))
 
 
-def merges(folder: str, case: str, declaration: str, lines: Sequence[str]) -> None:
-    """Wants the file of these additions. Raises AssertionError where it is otherwise."""
+def merges(folder: str, case: str, declaration: str, lines: Sequence[str], is_shown: bool = True) -> None:
+    """Wants the file of these additions, which the tools of Wireshark show or not. Raises AssertionError where it is
+    otherwise."""
     done = subprocess.run([program(), "mergecap", declaration, "pcapng"], input=script_of(lines), capture_output=True)
     assert done.returncode == 0, (case, done.returncode, done.stdout[:80])
     merged = [line.split(" ") for line in answered(declaration, [*lines, "merge"])[-1][1:]]
@@ -154,13 +161,14 @@ def merges(folder: str, case: str, declaration: str, lines: Sequence[str]) -> No
     for _, label, path in (line.split(" ") for line in lines):
         packets |= {f"{label}#{n}": packet for n, packet in enumerate(captured(read(path)), 1)}
     order = [event for _, event, *_ in merged if event in packets]
-    taps = sorted({(event.split("#")[0], packets[event].link) for event in order})
+    under = {event: (event.split("#")[0], packets[event].link) for event in order}
+    taps = sorted(set(under.values()))
     interfaces, written = file_of(done.stdout)
-    wanted = [(taps.index((event.split("#")[0], packets[event].link)), (times[event] + shift) // 1, packets[event]) for event in order]
+    wanted = [(taps.index(under[event]), (times[event] + shift) // 1, packets[event]) for event in order]
     assert written == wanted, (case, "other packets", written[:2], wanted[:2])
-    said = [Interface(link, 0, {2: label.encode(), 3: description(declaration, label).encode(), 9: b"\x09"}) for label, link in taps]
-    assert interfaces == said, (case, interfaces, said)
-    read_again(case, write(f"{folder}/merged.pcapng", done.stdout), written)
+    assert interfaces == [described(declaration, *tap) for tap in taps], (case, interfaces)
+    if is_shown:
+        read_again(case, write(f"{folder}/merged.pcapng", done.stdout), written)
     print(f"{case}: {len(written)} packets under {len(interfaces)} interfaces, from {written[0][1]} ns on")
 
 
@@ -188,6 +196,22 @@ def empty(folder: str, stamps: Sequence[int]) -> str:
     return write(f"{folder}/empty", SECTION + interface + b"".join(block(stamp, b"") for stamp in stamps))
 
 
+def chain(folder: str, last: int) -> tuple[str, list[str]]:
+    """A declaration of five hosts, and the additions of what each sees of a message that goes from one to the next:
+    sent at 2^62 ns less 1, on the way for 2^62 ns less 1 three times, and then for so many ns."""
+    text = "payload_bytes = 8\n"
+    lines: list[str] = []
+    for host in range(5):
+        text += f'[hosts.h{host}]\naddresses = ["10.9.0.{host + 1}"]\n'
+        text += f'[labels.h{host}]\nhost = "h{host}"\nkind = "capture"\n'
+        stamp = 0 if host else 2**62 - 1
+        seen = [(stamp, frame(it + 1, it + 2, b"word   %d" % it)) for it in (host - 1, host) if 0 <= it < 4]
+        lines.append(f"add h{host} {write(f'{folder}/h{host}', blocks(seen))}")
+    for host in range(4):
+        text += f'[[links]]\nfrom = "h{host}"\nto = "h{host + 1}"\nleast = {last if host == 3 else 2**62 - 1}\n'
+    return write(f"{folder}/chain.toml", text), lines
+
+
 def cases(folder: str) -> None:
     merges(folder, "captures", HOSTS, [LEFT, RIGHT])
     merges(folder, "captures, right first", HOSTS, [RIGHT, LEFT])
@@ -200,6 +224,8 @@ def cases(folder: str) -> None:
     merges(folder, "stamps of 0 and of 2^62 ns less 1", plain, [f"add left {empty(folder, [0, 2**62 - 1])}"])
     one = write(f"{folder}/one", blocks([(5, frame(1, 2, b"a"))]))
     merges(folder, "one packet", plain, [f"add left {one}"])
+    merges(folder, "a date of 2^64 ns less 1", *chain(folder, 3), is_shown=False)
+    no_file("a date of 2^64 ns", *chain(folder, 4), "range")
     done = subprocess.run([program(), "mergecap", plain, "pcapng"], input=b"", capture_output=True)
     assert (done.stdout, done.returncode) == (SECTION, 0), done
     print("no line: a section alone")
