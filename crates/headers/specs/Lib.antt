@@ -2,6 +2,7 @@ pub mod Bytes
 pub mod Checks
 pub mod Layers
 pub mod Frame
+pub mod Interfaces
 pub mod Ipv4
 pub mod Extensions
 pub mod Ipv6

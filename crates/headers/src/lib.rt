@@ -20,3 +20,4 @@ mod udp;
 
 pub use frame::decode;
 pub use key::{Network, PacketKey, Piece, Ports, Reason, Segment, Transport, UserDatagram, Wanted};
+pub use link::interface_of;

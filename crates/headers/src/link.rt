@@ -1,9 +1,10 @@
 // The type of the link that a frame was captured on, as a file of the pcap format gives it.
 ghost use Rattle.std.specs.Prelude.{◌≡◌, ◌+◌, ◌≤◌, Some, None, IfOk, IfErr, OnOk};
 ghost use Rattle.headers.specs.Checks.{first_reason};
+ghost use Rattle.headers.specs.Interfaces.{cooked_interface, interface_of};
 ghost use Rattle.headers.specs.Frame.{carried_in, carries, cooked_carried, cooked_checks, ethernet_carried, ethernet_checks, link_checks, raw_carried, raw_checks, type_checks, typed_carried, version_checks};
 
-use crate::bytes::{behind, half_at};
+use crate::bytes::{behind, half_at, word_at};
 use crate::ethernet::typed_part;
 use crate::packet::version_in;
 use crate::{Reason, ipv4, ipv6};
@@ -18,6 +19,9 @@ const RAW: u16 = 101;
 const LINUX_SLL: u16 = 113;
 
 const LINUX_SLL2: u16 = 276;
+
+// Where the second cooked header has the index of an interface.
+const INDEX: usize = 4;
 
 // The types of what is carried, of which IEEE keeps the list.
 const IPV4: u16 = 0x0800;
@@ -158,4 +162,26 @@ pub(crate) fn packet_in(link: u16, frame: &[u8]) -> Result<Carried<'_>, Reason>
         return cooked_packet(SECOND, frame);
     }
     Err(Reason::Link)
+}
+
+// The index of an interface in a second cooked header.
+fn cooked_interface(frame: &[u8]) -> Option<u32>
+    ensures { result ≡ cooked_interface frame.now }
+{
+    if frame.len() < INDEX + 4 {
+        return None;
+    }
+    Some(word_at(frame, INDEX))
+}
+
+/// The interface that a frame was captured on: the index in a Linux cooked header of the second version
+/// (LINKTYPE_LINUX_SLL2), where its first eight bytes are there; on each other link what the capture tells, if it does.
+pub fn interface_of(link: u16, told: Option<u32>, frame: &[u8]) -> Option<u32>
+    ensures { result ≡ interface_of link told frame.now }
+{
+    if link == LINUX_SLL2 {
+        cooked_interface(frame)
+    } else {
+        told
+    }
 }

@@ -1,5 +1,5 @@
 -- A merged capture is read as the packets that it was made of.
-use Rattle.std.proofs.Common.{◌≡◌, ◌<◌, ◌+◌, ◌*◌, ◌/◌, ◌%◌, ◌^◌, ℕ, ℤ, pos, negsuc, List, [], ◌∷◌, ◌++◌, length, drop, get_or, map, All, Some, ◌≤ℤ◌, ◌<ℤ◌, unsigned_abs, refl, sym, ap, ◌∙◌, arith, length-append}
+use Rattle.std.proofs.Common.{◌≡◌, ◌<◌, ◌+◌, ◌*◌, ◌/◌, ◌%◌, ◌^◌, ℕ, ℤ, pos, negsuc, List, [], ◌∷◌, ◌++◌, length, drop, get_or, map, All, None, Some, ◌≤ℤ◌, ◌<ℤ◌, unsigned_abs, refl, sym, ap, ◌∙◌, arith, length-append}
 use Rattle.std.proofs.lemmas.Int.{ints}
 use Rattle.std.proofs.lemmas.List.{append-nil}
 use Rattle.std.proofs.lemmas.List.Elements.{All-map, All-nil, All-head, All-tail, Contains-get_or}
@@ -60,7 +60,7 @@ record_is link t is short = record {
 }
 
 abbrev seen_with : ℕ → ℕ → ℕ → List ℕ → Seen
-seen_with stamp link original bytes = record { stamp = stamp; link = link; original_length = original; bytes = bytes }
+seen_with stamp link original bytes = record { stamp = stamp; link = link; interface = None; original_length = original; bytes = bytes }
 
 seen_one : (stamp stamp' link link' original original' : ℕ) (bytes : List ℕ) → stamp ≡ stamp' → link ≡ link' → original ≡ original' →
     seen_with stamp link original bytes ≡ seen_with stamp' link' original' bytes

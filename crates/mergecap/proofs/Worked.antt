@@ -1,5 +1,5 @@
 -- Packets of two captures, worked out: their capture byte for byte, and their order.
-use Rattle.std.proofs.Common.{◌≡◌, ◌*◌, ℕ, List, [], ◌∷◌, ◌++◌, pos, length, take, refl, inl, inr, arith}
+use Rattle.std.proofs.Common.{◌≡◌, ◌*◌, ℕ, List, [], ◌∷◌, ◌++◌, pos, length, take, None, refl, inl, inr, arith}
 use Rattle.std.proofs.lemmas.Int.{ints}
 use Rattle.report.specs.Merging.{ComesFirst}
 use Rattle.mergecap.specs.MergedCapture.{Timed, header_nanos, merged_capture, record_head, whole_nanos}
@@ -13,7 +13,7 @@ back = 69 ∷ 0 ∷ 0 ∷ 28 ∷ 0 ∷ 8 ∷ 0 ∷ 0 ∷ 64 ∷ 17 ∷ 0 ∷ 0 �
 
 -- a packet of a label and its number there, at so many ns; the clock of its host said 100 ns
 abbrev packet_at : ℕ → ℕ → ℕ → List ℕ → Timed
-packet_at nanos place n bytes = record { key = record { value = pos (nanos * 1000000000); place = place; n = n }; packet = record { stamp = 100; link = 101; original_length = 28; bytes = bytes } }
+packet_at nanos place n bytes = record { key = record { value = pos (nanos * 1000000000); place = place; n = n }; packet = record { stamp = 100; link = 101; interface = None; original_length = 28; bytes = bytes } }
 
 -- what the first label sent comes 10 ns later, and what it received left 20 ns before
 abbrev four : List Timed

@@ -1,18 +1,19 @@
 -- Packets as they are seen, and packets of which only so many are kept.
-use Rattle.std.specs.Prelude.{◌≡◌, ℕ, ◌-◌, ◌<◌, ◌↔◌, List, ◌++◌, length, map, take, IsTrue}
+use Rattle.std.specs.Prelude.{◌≡◌, ℕ, ◌-◌, ◌<◌, ◌↔◌, List, ◌++◌, length, map, take, IsTrue, Option}
 use Rattle.packets.specs.declared.first_packets.FirstPackets.{FirstPackets}
 use Rattle.packets.specs.declared.packet.Packet.{Packet}
 
--- a packet: its stamp in ns, its link type, how many bytes it is said to have had on its link, and those that were captured
+-- a packet: its stamp in ns, its link type, the number of its interface if its capture numbers them, how many bytes it is said to have had on its link, and those that were captured
 pub record Seen : Type 0 where
   pub stamp : ℕ
   pub link : ℕ
+  pub interface : Option ℕ
   pub original_length : ℕ
   pub bytes : List ℕ
 
 -- the packets of the code
 abbrev pub seen_packet : Packet → Seen
-seen_packet p = record { stamp = p.stamp; link = p.link; original_length = p.original_length; bytes = p.bytes.items }
+seen_packet p = record { stamp = p.stamp; link = p.link; interface = p.interface; original_length = p.original_length; bytes = p.bytes.items }
 
 abbrev pub seen_packets : List Packet → List Seen
 seen_packets packets = map seen_packet packets

@@ -8,6 +8,8 @@ pub struct Packet {
     pub stamp: Nano,
     /// The link type of its capture, the lower 16 bits of the field.
     pub link: u16,
+    /// The number of its interface in its section of a pcapng capture; None of a classic one, which numbers none.
+    pub interface: Option<u32>,
     /// How many bytes it had on its link, as its capture says (the original packet length of both formats). Nothing ties
     /// it to how many were captured.
     pub original_length: u32,

@@ -1,5 +1,5 @@
 -- Reading records: what one more says of all.
-use Rattle.std.proofs.Common.{◌≡◌, ◌≤◌, ◌<◌, ◌+◌, ◌-◌, ◌*◌, ℕ, List, [], ◌∷◌, ◌++◌, length, take, drop, map, sym, ap, subst, ◌∙◌, arith, append_assoc, length-append}
+use Rattle.std.proofs.Common.{◌≡◌, ◌≤◌, ◌<◌, ◌+◌, ◌-◌, ◌*◌, ℕ, None, List, [], ◌∷◌, ◌++◌, length, take, drop, map, sym, ap, subst, ◌∙◌, arith, append_assoc, length-append}
 use Rattle.std.specs.List.{flat_map}
 use Rattle.std.proofs.lemmas.List.{append-nil, take-append-drop, drop-take, length-take-le, length-drop, drop_at, map-append, take_rest}
 use Rattle.std.proofs.lemmas.List.Elements.{All-push}
@@ -15,7 +15,7 @@ use Rattle.pcap_stream.proofs.Records.{record_long, captured-append}
 
 -- ---- one record
 abbrev pub seen_with : ℕ → ℕ → ℕ → List ℕ → Seen
-seen_with stamp link original bytes = record { stamp = stamp; link = link; original_length = original; bytes = bytes }
+seen_with stamp link original bytes = record { stamp = stamp; link = link; interface = None; original_length = original; bytes = bytes }
 
 -- the length that the first 16 bytes say is the one that all say
 pub captured-take : (o : Order) (bytes : List ℕ) → captured_length o (take 16 bytes) ≡ captured_length o bytes

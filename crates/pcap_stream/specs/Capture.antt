@@ -83,7 +83,7 @@ nanos Nanos n = n
 
 -- the packet of a record; a fraction past a second counts as it stands
 abbrev pub packet_of : Header → Record → Seen
-packet_of h r = record { stamp = number_in h.order 4 r.head * 1000000000 + nanos h.fraction (number_in h.order 4 (drop 4 r.head)); link = h.link; original_length = number_in h.order 4 (drop 12 r.head); bytes = r.captured }
+packet_of h r = record { stamp = number_in h.order 4 r.head * 1000000000 + nanos h.fraction (number_in h.order 4 (drop 4 r.head)); link = h.link; interface = None; original_length = number_in h.order 4 (drop 12 r.head); bytes = r.captured }
 
 -- ---- streams
 -- what a stream says: its header, if that is whole, its whole records, and what is left

@@ -69,6 +69,7 @@ fn read_record(
     Ok(Some(Packet {
         stamp: stamp_of(header, head),
         link: header.link,
+        interface: None,
         original_length: header.order.number(&head[ORIGINAL_PLACE..]),
         bytes,
     }))

@@ -300,8 +300,8 @@ module _ (is : List SaidInterface) (p : SaidPacket) (lawful : IsPacket p) (reada
       ap (λ (n : ℕ). take n (drop 28 (packet_bytes p))) (captured_said p lawful) ∙ ap (take (length p.bytes)) joined ∙ take_at p.bytes more (length p.bytes) refl
 
   pub packet_seen : packets_in section (packet_block p) ≡ seen_packet is p ∷ []
-  packet_seen = seen_same _ p.stamp _ _ _ p.original _ p.bytes (ap unsigned_abs stamp_is) link_is (original_said p lawful) bytes_are
+  packet_seen = seen_same _ p.stamp _ _ _ p.interface _ p.original _ p.bytes (ap unsigned_abs stamp_is) link_is (number_said p lawful) (original_said p lawful) bytes_are
     where
-      seen_same : (s stamp l link o original : ℕ) (b bytes : List ℕ) → s ≡ stamp → l ≡ link → o ≡ original → b ≡ bytes →
-          ◌≡◌ {A = List Seen} (record { stamp = s; link = l; original_length = o; bytes = b } ∷ []) (record { stamp = stamp; link = link; original_length = original; bytes = bytes } ∷ [])
-      seen_same s stamp l link o original b bytes e f h g = cc
+      seen_same : (s stamp l link i interface o original : ℕ) (b bytes : List ℕ) → s ≡ stamp → l ≡ link → i ≡ interface → o ≡ original → b ≡ bytes →
+          ◌≡◌ {A = List Seen} (record { stamp = s; link = l; interface = Some i; original_length = o; bytes = b } ∷ []) (record { stamp = stamp; link = link; interface = Some interface; original_length = original; bytes = bytes } ∷ [])
+      seen_same s stamp l link i interface o original b bytes e f n h g = cc

@@ -1,5 +1,5 @@
 -- A file that is read.
-use Rattle.std.specs.Prelude.{◌≡◌, ℕ, ◌+◌, ◌^◌, ◌<◌, ◌≤◌, List, [], length, drop, get_or, map, pos, All}
+use Rattle.std.specs.Prelude.{◌≡◌, ℕ, ◌+◌, ◌^◌, ◌<◌, ◌≤◌, List, [], length, drop, get_or, map, pos, Some, All}
 use Rattle.packets.specs.Dropped.{none_dropped}
 use Rattle.packets.specs.Packets.{Seen}
 use Rattle.pcapng_stream.specs.declared.section.Interface.{Interface}
@@ -29,7 +29,7 @@ seen_interface i = record { link = i.link; resolution = 9; offset = pos 0; dropp
 
 -- a packet as it is read, with the link type of its interface
 abbrev pub seen_packet : List SaidInterface → SaidPacket → Seen
-seen_packet interfaces p = record { stamp = p.stamp; link = get_or (links_of interfaces) p.interface 0; original_length = p.original; bytes = p.bytes }
+seen_packet interfaces p = record { stamp = p.stamp; link = get_or (links_of interfaces) p.interface 0; interface = Some p.interface; original_length = p.original; bytes = p.bytes }
 
 -- the file is read as these packets, each once, in their order, and nothing is left: behind the section header and the interfaces a
 -- block for each, with the number of its interface

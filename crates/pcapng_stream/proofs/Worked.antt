@@ -109,7 +109,7 @@ early_is = refl
 pub cut_is : flaw_in (section_behind before header) cut_interface ≡ Some Malformed
 cut_is = refl
 
-pub packets_are : ◌≡◌ {A = List Seen} (packets_of capture) (record { stamp = 100; link = 101; original_length = 9; bytes = 7 ∷ [] } ∷ [])
+pub packets_are : ◌≡◌ {A = List Seen} (packets_of capture) (record { stamp = 100; link = 101; interface = Some 0; original_length = 9; bytes = 7 ∷ [] } ∷ [])
 packets_are = refl
 
 pub passed_are : ◌≡◌ {A = Passed} (passed_over (header ∷ simple ∷ interface ∷ entry ∷ names ∷ packet ∷ simple ∷ [])) (record { simple = 2; obsolete = 0; other = 1 })

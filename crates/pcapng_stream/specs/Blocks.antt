@@ -158,7 +158,7 @@ is_stamp (negsuc n) = false
 
 -- the packet of an enhanced packet block
 abbrev pub packet_of : Section → Block → Seen
-packet_of s b = record { stamp = unsigned_abs (stamp_of s b); link = (interface_for s b).link; original_length = word_at b.order 24 b.bytes; bytes = take (captured_length b) (drop 28 b.bytes) }
+packet_of s b = record { stamp = unsigned_abs (stamp_of s b); link = (interface_for s b).link; interface = Some (interface_number b); original_length = word_at b.order 24 b.bytes; bytes = take (captured_length b) (drop 28 b.bytes) }
 
 -- ---- packets that were dropped
 -- the options of statistics, which stand before the last length, if none of them is cut

@@ -36,7 +36,7 @@ block_of b = record { order = b.order; bytes = b.bytes.now }
 
 -- the packet of the code, before it has bytes of its own
 abbrev pub seen_captured : Captured → Seen
-seen_captured c = record { stamp = c.stamp; link = c.link; original_length = c.original_length; bytes = c.bytes.now }
+seen_captured c = record { stamp = c.stamp; link = c.link; interface = Some c.interface; original_length = c.original_length; bytes = c.bytes.now }
 
 -- an option of this code and with this value
 abbrev pub option_with : ℕ → List ℕ → Opt

@@ -66,6 +66,7 @@ fn nanos(resolution: u8, time: u64) -> u128
 pub struct Captured<'a> {
     pub stamp: Nano,
     pub link: u16,
+    pub interface: u32,
     pub original_length: u32,
     pub bytes: &'a [u8],
 }
@@ -78,6 +79,7 @@ impl Captured<'_> {
         Ok(Packet {
             stamp: self.stamp,
             link: self.link,
+            interface: Some(self.interface),
             original_length: self.original_length,
             bytes: Vec::from_slice(alloc, self.bytes)?,
         })
@@ -161,6 +163,7 @@ pub(crate) fn read_packet<'a>(
     Ok(Captured {
         stamp,
         link: interface.link,
+        interface: block.order.word_at(block.bytes, INTERFACE_PLACE),
         original_length: block.order.word_at(block.bytes, ORIGINAL_PLACE),
         bytes: front(behind(block.bytes, PACKET_PLACE), captured as usize),
     })
