@@ -13,11 +13,12 @@ use Rattle.decl.specs.Clocks.{first_clock_place, if_owned, own_clock_place}
 use Rattle.decl.specs.Declaration.{IsDeclaration, IsSource, IsClockOf, LinkFits}
 use Rattle.decl.specs.Hosts.{HostLists, host_lists, hosts_of, clocks_of, hosts_faults, is_one_too_many}
 use Rattle.decl.specs.Keys.{table_causes, entry_causes, entry_table}
-use Rattle.decl.specs.Labels.{host_at_key, clock_at_key, places_at, is_misnamed, label_causes, label_of, labels_faults, labels_of}
+use Rattle.decl.specs.Labels.{host_at_key, clock_at_key, is_log, is_misnamed, label_causes, label_of, labels_faults, labels_of, places_at, said_causes, speaks_of_packets, trace_kind_at}
 use Rattle.decl.specs.Limits.{most_entries, most_payload, nano_limit}
 use Rattle.decl.specs.Links.{has_link, is_astray, link_causes, link_of, links_faults, links_of}
 use Rattle.decl.specs.Names.{is_clock_name}
 use Rattle.decl.specs.Places.{host_place, clock_place}
+use Rattle.decl.specs.Subnets.{subnets_in}
 use Rattle.decl.specs.Values.{is_up_to, text_at, whole_at, whole_or_zero}
 use Rattle.decl.specs.Walk.{declared, faults, hosts_in, is_true_at, labels_in, links_in, shows_true, source_causes, top_causes}
 use Rattle.decl.specs.declared.cause.Cause.TheVariants as cause
@@ -113,15 +114,18 @@ module _ (hosts : HostLists) where
 
   record GoodLabel (name : List ℕ) (ms : Members) : Type 0 where
     named : IsClockName name
-    placed : (label_of hosts name ms).host < length hosts.names
-    owned : IsClockOf hosts.owners (label_of hosts name ms).host (label_of hosts name ms).clock
+    placed : (label_of hosts 0 name ms).host < length hosts.names
+    owned : IsClockOf hosts.owners (label_of hosts 0 name ms).host (label_of hosts 0 name ms).clock
 
   good_label : (index : ℕ) (name : List ℕ) (o : Option Members) → entry_causes (label_causes hosts index name) o ≡ [] → GoodLabel name (unwrap_or o no_members)
   good_label index name None e = cc
   good_label index name (Some ms) e =
-      let (front, _) = no_parts (table_causes form.Label ms ++ when (is_misnamed hosts name ms) cause.Name) _ e in
+      let (said, _) = no_parts (said_causes hosts index name ms) _ e in
+      let (others, _) = no_parts (table_causes form.Label ms ++ when (is_misnamed hosts name ms) cause.Name ++ when (is_log (trace_kind_at ms) && speaks_of_packets ms) cause.Key) _ said in
+      let (front, _) = no_parts (table_causes form.Label ms ++ when (is_misnamed hosts name ms) cause.Name) _ others in
       let (_, names) = no_parts (table_causes form.Label ms) _ front in
-      let (name_places, kind) = neither (not (is_clock_name name) || is_none (places_at hosts ms)) _ (not_so _ cause.Name names) in
+      let (name_kind, _) = neither ((not (is_clock_name name) || is_none (places_at hosts ms)) || is_none (trace_kind_at ms)) _ (not_so _ cause.Name names) in
+      let (name_places, _) = neither (not (is_clock_name name) || is_none (places_at hosts ms)) _ name_kind in
       let (named, known) = neither (not (is_clock_name name)) _ name_places in
       let (places, is) = is_given (places_at hosts ms) known in
       let good = places_are ms places is in
@@ -138,17 +142,18 @@ module _ (hosts : HostLists) where
   labels_behind : (index : ℕ) (name : List ℕ) (d : Data) (ms : Members) → labels_faults hosts index (member name d ms) ≡ [] → labels_faults hosts (index + 1) ms ≡ []
   labels_behind index name d ms e = (no_parts (at Labels index (entry_causes (label_causes hosts index name) (as_table d))) _ e).1
 
-  labels_all : (P : Label → Type 0) → ((name : List ℕ) (ms : Members) → GoodLabel name ms → P (label_of hosts name ms)) → (index : ℕ) (ms : Members) → labels_faults hosts index ms ≡ [] → All P (labels_of hosts ms)
-  labels_all P good index no_members e = All-nil P
-  labels_all P good index (member name d ms) e =
-      All-cons P _ _ (good name (entry_table d) (good_label index name (as_table d) (label_here index name d ms e)))
-      (labels_all P good (index + 1) ms (labels_behind index name d ms e))
+  labels_all : (P : Label → Type 0) → ((before : ℕ) (name : List ℕ) (ms : Members) → GoodLabel name ms → P (label_of hosts before name ms)) → (index before : ℕ) (ms : Members) → labels_faults hosts index ms ≡ []
+      → All P (labels_of hosts before ms)
+  labels_all P good index before no_members e = All-nil P
+  labels_all P good index before (member name d ms) e =
+      All-cons P _ _ (good before name (entry_table d) (good_label index name (as_table d) (label_here index name d ms e)))
+      (labels_all P good (index + 1) (before + length (subnets_in (entry_table d))) ms (labels_behind index name d ms e))
 
-  labels_few : (index : ℕ) (ms : Members) → index ≤ most_entries + 1 → labels_faults hosts index ms ≡ [] → index + length (labels_of hosts ms) ≤ most_entries + 1
-  labels_few index no_members le e = omega (arith, le)
-  labels_few index (member name d ms) le e =
-      let here = label_few hosts index name (as_table d) (label_here index name d ms e) in
-      let more = labels_few (index + 1) ms (omega (arith, here)) (labels_behind index name d ms e) in
+  labels_few : (index before : ℕ) (ms : Members) → index ≤ most_entries + 1 → labels_faults hosts index ms ≡ [] → index + length (labels_of hosts before ms) ≤ most_entries + 1
+  labels_few index before no_members le e = omega (arith, le)
+  labels_few index before (member name d ms) le e =
+      let here = (label_few hosts index name (as_table d) (label_here index name d ms e)).0 in
+      let more = labels_few (index + 1) (before + length (subnets_in (entry_table d))) ms (omega (arith, here)) (labels_behind index name d ms e) in
       omega (arith, more)
 
 -- ---- links
@@ -248,7 +253,7 @@ source_true clocks (Some name) e = true_source clocks (clock_place clocks name) 
 
 -- ---- all together
 
-pub lawful : (ms : Members) → Rise (hosts_of (hosts_in ms)) → RiseLabels (labels_of (host_lists (hosts_in ms)) (labels_in ms)) → faults ms ≡ [] → IsDeclaration (declared ms)
+pub lawful : (ms : Members) → Rise (hosts_of (hosts_in ms)) → RiseLabels (labels_of (host_lists (hosts_in ms)) 0 (labels_in ms)) → faults ms ≡ [] → IsDeclaration (declared ms)
 lawful ms rise labels_rise e =
     let tables = hosts_in ms in
     let lists = host_lists tables in
@@ -288,10 +293,10 @@ lawful ms rise labels_rise e =
         addresses6_differ = lawful_hosts.addresses6_differ tables hosts;
       };
       labels = record {
-        label_names = labels_all lists (λ (l : Label). IsClockName l.name) (λ name m good. good.named) 1 (labels_in ms) labels;
+        label_names = labels_all lists (λ (l : Label). IsClockName l.name) (λ before name m good. good.named) 1 0 (labels_in ms) labels;
         labels_rise = labels_rise;
-        label_hosts = labels_all lists (λ (l : Label). l.host < length names) (λ name m good. good.placed) 1 (labels_in ms) labels;
-        label_clocks = labels_all lists (λ (l : Label). IsClockOf lists.owners l.host l.clock) (λ name m good. good.owned) 1 (labels_in ms) labels;
+        label_hosts = labels_all lists (λ (l : Label). l.host < length names) (λ before name m good. good.placed) 1 0 (labels_in ms) labels;
+        label_clocks = labels_all lists (λ (l : Label). IsClockOf lists.owners l.host l.clock) (λ before name m good. good.owned) 1 0 (labels_in ms) labels;
       };
       links = record {
         link_starts = links_all names (λ (l : Link). l.from < length names) (λ before m good. good.start) 1 [] (links_in ms) links;
@@ -302,7 +307,7 @@ lawful ms rise labels_rise e =
       limits = record {
         host_limit = lawful_hosts.host_limit tables hosts;
         clock_limit = lawful_hosts.clock_limit tables hosts;
-        label_limit = omega (arith, labels_few lists 1 (labels_in ms) (omega arith) labels);
+        label_limit = omega (arith, labels_few lists 1 0 (labels_in ms) (omega arith) labels);
         link_limit = omega (arith, links_few names 1 [] (links_in ms) (omega arith) links);
         payload_limit = up_to_le most_payload (whole_or_zero (codes "payload_bytes") ms) payload;
         window_limit = optional_fits (whole_at (codes "window") ms) window;

@@ -17,3 +17,5 @@ mod Fresh
 mod Lawful
 mod LawfulWhole
 mod Wholes
+mod SubnetTexts
+mod SubnetTurns

@@ -1,7 +1,7 @@
 -- What is wrong in a declaration, and where.
 use Rattle.std.specs.Prelude.{◌≡◌, ℕ, Bool, if◌then◌else◌, List, [], ◌∷◌, map, Option, Some, None, Result, Ok, Err, ⊤}
 use Rattle.decl.specs.declared.cause.Cause.{Cause}
-use Rattle.decl.specs.declared.cause.Cause.TheVariants.{Document, Key, Shape, Name, Number, Address, Source, Size}
+use Rattle.decl.specs.declared.cause.Cause.TheVariants.{Document, Key, Shape, Name, Number, Address, Source, Size, Sides}
 use Rattle.decl.specs.declared.errors.DeclError.{DeclError}
 use Rattle.decl.specs.declared.errors.DeclError.TheVariants.{Fault, Memory}
 use Rattle.decl.specs.declared.errors.Section.{Section}
@@ -16,6 +16,7 @@ cause_number Number = 5
 cause_number Address = 6
 cause_number Source = 7
 cause_number Size = 8
+cause_number Sides = 9
 
 -- the fault of an entry of a section
 abbrev pub fault_of_entry : Section → ℕ → Cause → DeclError

@@ -1,7 +1,8 @@
 -- What a declaration says, and the rules that it meets.
-use Rattle.std.specs.Prelude.{◌≡◌, ◌≢◌, ℕ, Bool, ◌+◌, ◌<◌, ◌≤◌, ◌==◌, if◌then◌else◌, List, length, slice_get, Option, Some, None, option_map, option_to_list, unwrap_or, IfSome, All, AllPairs, ℤ, pos, nat_abs}
+use Rattle.std.specs.Prelude.{◌≡◌, ◌≢◌, ℕ, Bool, true, false, not, ◌&&◌, ◌+◌, ◌<◌, ◌≤◌, ◌==◌, if◌then◌else◌, List, length, take, drop, slice_get, position, Option, Some, None, option_map, option_to_list, unwrap_or, IfSome, All, AllPairs, ℤ, pos, nat_abs}
 use Rattle.std.specs.List.{flat_map, range_with_len}
 use Rattle.std.specs.Ordering.{nat_cmp}
+use Rattle.std.specs.Str.{bytes_eq}
 use Rattle.std.specs.declared.cmp.Ordering.TheVariants.{Less}
 use Rattle.std.specs.Cmp.Lexicographic.{slice_cmp}
 use Rattle.problem_model.specs.declared.items.Clock.{Clock}
@@ -18,9 +19,12 @@ use Rattle.decl.specs.declared.items.IpVersion.{IpVersion}
 use Rattle.decl.specs.declared.items.IpVersion.TheVariants.{V4, V6}
 use Rattle.decl.specs.declared.items.Label.{Label}
 use Rattle.decl.specs.declared.items.Link.{Link}
+use Rattle.decl.specs.declared.items.Subnet.{Subnet}
+use Rattle.decl.specs.declared.items.Whereabouts.{Whereabouts}
+use Rattle.decl.specs.Subnets.{give_near, narrowest, place_by}
 
 -- what a declaration says: the names of the hosts, their clocks, and whose each of these is; addresses, labels and links
--- name hosts by place, labels and the source name clocks by place
+-- name hosts by place, labels and the source name clocks by place, and labels their subnets
 pub record Declaration : Type 0 where
   pub hosts : List (List ℕ)
   pub clocks : List Clock
@@ -28,6 +32,7 @@ pub record Declaration : Type 0 where
   pub addresses : List Address
   pub addresses6 : List Address
   pub labels : List Label
+  pub subnets : List Subnet
   pub links : List Link
   pub payload_bytes : ℕ
   pub tcp_options : Bool
@@ -37,7 +42,7 @@ pub record Declaration : Type 0 where
 
 -- what the code's own declaration says
 abbrev pub declaration_of : Decl → Declaration
-declaration_of d = record { hosts = d.hosts.items; clocks = d.clocks.items; owners = d.owners.items; addresses = d.addresses; addresses6 = d.addresses6; labels = d.labels.items; links = d.links; payload_bytes = d.payload_bytes; tcp_options = d.tcp_options; fragments = d.fragments; window = d.window; source = d.source }
+declaration_of d = record { hosts = d.hosts.items; clocks = d.clocks.items; owners = d.owners.items; addresses = d.addresses; addresses6 = d.addresses6; labels = d.labels.items; subnets = d.subnets.items; links = d.links; payload_bytes = d.payload_bytes; tcp_options = d.tcp_options; fragments = d.fragments; window = d.window; source = d.source }
 
 -- a name comes before another in byte order
 abbrev pub Precedes : List ℕ → List ℕ → Type 0
@@ -146,6 +151,35 @@ AreOfOneHost d b c = (host : ℕ) × IsClockOf d.owners host b × IsClockOf d.ow
 abbrev pub host_at : Declaration → IpVersion → ℕ → Option ℕ
 host_at d V4 address = host_among d.addresses address
 host_at d V6 address = host_among d.addresses6 address
+
+-- the subnets that a label gives
+abbrev pub subnets_of : Declaration → Label → List Subnet
+subnets_of d l = take l.subnet_count (drop l.first_subnet d.subnets)
+
+-- the host that has an address is this one
+abbrev pub is_host : Option ℕ → ℕ → Bool
+is_host None host = false
+is_host (Some other) host = other == host
+
+-- an address is one of the host's own, which count where the label gives none of this version in their place
+abbrev pub is_own : Declaration → Label → IpVersion → ℕ → Bool
+is_own d l version address = not (give_near version (subnets_of d l)) && is_host (host_at d version address) l.host
+
+-- where an address of a version is, as seen from where the trace of a label was taken: on the side of the narrowest of the
+-- label's subnets that has it; and the host's own are near, each by itself
+abbrev pub whereabouts : Declaration → Label → IpVersion → ℕ → Whereabouts
+whereabouts d l version address = place_by (is_own d l version address) (narrowest version address (subnets_of d l))
+
+-- two labels are of one segment
+abbrev pub is_same_segment : Option (List ℕ) → Option (List ℕ) → Bool
+is_same_segment None None = true
+is_same_segment None (Some b) = false
+is_same_segment (Some a) None = false
+is_same_segment (Some a) (Some b) = bytes_eq a b
+
+-- the number of a label's segment: the place of the first label of it
+abbrev pub segment_of : Declaration → Label → ℕ
+segment_of d l = unwrap_or (position (λ other. is_same_segment other.segment l.segment) d.labels) 0
 
 -- what a declaration says of the delay from one host to another
 abbrev pub link_bounds : Declaration → ℕ → ℕ → ℕ × Option ℕ

@@ -6,6 +6,7 @@ pub mod Keys
 pub mod Values
 pub mod Names
 pub mod Addresses
+pub mod Subnets
 pub mod Places
 pub mod Clocks
 pub mod Booked

@@ -1,5 +1,5 @@
 -- How much a declaration may say.
-use Rattle.std.specs.Prelude.{ℕ, ◌^◌}
+use Rattle.std.specs.Prelude.{ℕ, ◌-◌, ◌^◌}
 use Rattle.problem_model.specs.Limits.{most_clocks}
 
 -- the most bytes of a document, which is held in memory whole, beside its values
@@ -21,6 +21,14 @@ most_short = 999999999
 -- the most parts per billion by which it is long: real time is never more than twice what it shows
 abbrev pub most_long : ℕ
 most_long = 1000000000
+
+-- the most subnets of a label, each of which is looked at for each address of a packet
+abbrev pub most_subnets : ℕ
+most_subnets = 256
+
+-- the greatest number of an interface, which has four bytes
+abbrev pub most_interface : ℕ
+most_interface = 2 ^ 32 - 1
 
 -- each number of nanoseconds is below this, as those of `Nano` are
 abbrev pub nano_limit : ℕ

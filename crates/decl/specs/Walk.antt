@@ -9,7 +9,7 @@ use Rattle.decl.specs.Causes.{when, at, fault_of_entry, IsFirstOf}
 use Rattle.decl.specs.Declaration.{Declaration}
 use Rattle.decl.specs.Hosts.{hosts_of, clocks_of, owners_from, host_lists, addresses_from, addresses6_from, hosts_faults}
 use Rattle.decl.specs.Keys.{table_causes}
-use Rattle.decl.specs.Labels.{labels_of, labels_faults}
+use Rattle.decl.specs.Labels.{label_subnets, labels_of, labels_faults}
 use Rattle.decl.specs.Limits.{most_document_bytes, most_payload, nano_limit}
 use Rattle.decl.specs.Links.{links_of, links_faults}
 use Rattle.decl.specs.Places.{clock_place}
@@ -71,7 +71,8 @@ declared ms = record {
   owners = owners_from 0 (hosts_in ms);
   addresses = addresses_from 0 (hosts_in ms);
   addresses6 = addresses6_from 0 (hosts_in ms);
-  labels = labels_of (host_lists (hosts_in ms)) (labels_in ms);
+  labels = labels_of (host_lists (hosts_in ms)) 0 (labels_in ms);
+  subnets = label_subnets (labels_in ms);
   links = links_of (hosts_of (hosts_in ms)) (links_in ms);
   payload_bytes = number_at (codes "payload_bytes") ms;
   tcp_options = flag_at (codes "tcp_options") ms;

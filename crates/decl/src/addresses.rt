@@ -63,7 +63,7 @@ fn read_address6(text: &[u8]) -> Option<u128>
 }
 
 // The address of this version that a text writes.
-fn read_as(version: IpVersion, text: &[u8]) -> Option<u128>
+pub(crate) fn read_as(version: IpVersion, text: &[u8]) -> Option<u128>
     ensures { result ≡ read_as version text.now }
 {
     match version {

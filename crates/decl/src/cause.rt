@@ -23,6 +23,8 @@ pub(crate) enum Cause {
     Source,
     // There are too many bytes.
     Size,
+    // Addresses are said to be on both sides of where a trace was taken.
+    Sides,
 }
 
 impl Cause {
@@ -39,6 +41,7 @@ impl Cause {
             Cause::Address => 6,
             Cause::Source => 7,
             Cause::Size => 8,
+            Cause::Sides => 9,
         }
     }
 

@@ -22,6 +22,8 @@ pub struct Decl {
     pub addresses6: Addresses,
     /// The traces.
     pub labels: Vec<Label>,
+    /// The subnets that labels give, each label's behind those of labels before.
+    pub subnets: Vec<Subnet>,
     /// What is known of delays, as it was written.
     pub links: Links,
     /// How much of a payload belongs to the key of a packet, in bytes: at most 64.
@@ -78,6 +80,42 @@ pub struct Label {
     pub clock: u32,
     /// What the trace is.
     pub kind: TraceKind,
+    /// The interface whose packets have keys, by the index in a second Linux cooked header or by its number in a section
+    /// of pcapng; None where those of each have.
+    pub interface: Option<u32>,
+    /// The name of the segment that the trace was taken on: a message joins two events of one segment. Labels that name none
+    /// are of one segment too.
+    pub segment: Option<Name>,
+    /// The place of its first subnet among those of the declaration, from 0 on.
+    pub first_subnet: u32,
+    /// How many subnets it has: at most 256.
+    pub subnet_count: u32,
+}
+
+/// Addresses of one version that have their first bits in common (a prefix of RFC 4632), and on which side of the place
+/// where a trace was taken they are.
+#[derive(Clone, Copy, Debug, PartialEq, Eq)]
+pub struct Subnet {
+    /// The version.
+    pub version: IpVersion,
+    /// Whether they are beyond that place: what comes from them is received there. Else they are its own, or nearer to
+    /// it: what comes from them is sent there.
+    pub beyond: bool,
+    /// The first address, as the number of its octets in network byte order.
+    pub first: u128,
+    /// By how much the last one is greater.
+    pub spread: u128,
+}
+
+/// Where an address is, as seen from where a trace was taken.
+#[derive(Clone, Copy, Debug, PartialEq, Eq)]
+pub enum Whereabouts {
+    /// At the host itself, or nearer to it than to the other side.
+    Near,
+    /// It is not said where.
+    Unsaid,
+    /// On the other side.
+    Beyond,
 }
 
 /// What a trace is.

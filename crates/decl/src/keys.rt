@@ -91,7 +91,9 @@ fn label_shape(key: &str) -> Option<Shape>
     ensures { result ≡ shape_of Form.Label key.now }
 {
     match key {
-        "host" | "kind" | "clock" => Some(Shape::Text),
+        "host" | "kind" | "clock" | "segment" => Some(Shape::Text),
+        "interface" => Some(Shape::Whole),
+        "addresses" | "addresses6" | "beyond" | "beyond6" => Some(Shape::Texts),
         _ => None,
     }
 }
@@ -159,7 +161,8 @@ fn has_other_shape(form: Form, table: &Table) -> bool
     false
 }
 
-fn lacks_one(table: &Table, key: &str) -> bool
+// Whether a key of the table is not there.
+pub(crate) fn lacks_one(table: &Table, key: &str) -> bool
     ensures { result ≡ lacks_one key.now (table_view table.now) }
 {
     value_at(table, key).is_none()

@@ -18,7 +18,7 @@
 //! |---|---|
 //! | host | `short` (at most 999,999,999) and `long` (at most 1,000,000,000), in parts per billion, and `early` and `late`, in ns below 2^62: 0 where they are not there. `offset`, in ns between -2^62 and 2^62: what its clocks are roughly ahead of true time, 0 where it is not there. `addresses`: an array of IPv4 addresses, each four decimals with points between and no zeros in front. `addresses6`: an array of IPv6 addresses, each eight groups of one to four hexadecimal digits, of either case, with colons between. `clocks`: an array with a table for each clock of the host, in the order in which they followed each other |
 //! | clock | `name`: a text, which it has. `short`, `long`, `early`, `late` and `offset`, as of a host: the host's where they are not there. `gap`, in ns below 2^62: the least real time from each reading of the clocks before it to one of this clock, 0 where it is not there; it has no effect at a host's first clock |
-//! | trace | `host`: a host's name; `kind`: `capture` or `log`. It has both. `clock`: the name of the host's clock that it was stamped by, its first one where it is not there |
+//! | trace | `host`: a host's name; `kind`: `capture` or `log`. It has both. `clock`: the name of the host's clock that it was stamped by, its first one where it is not there. `segment`: a clock name, of the segment that it was taken on; those that name none are of one segment. Of a capture, `interface`: the number of the interface whose packets have keys, below 2^32; `addresses` and `addresses6`: arrays of addresses that count in place of its host's; `beyond` and `beyond6`: of addresses on the other side of the place where it was taken, from which a packet is received and to which one is sent. Each such address is written as a host's, and may have a slash behind it and how many of its bits count, where the others are 0: so it stands for all that begin alike. Of those that have an address the one of most bits counts, among them those of its host where the label gives none of that version in their place. There are at most 256 at a label |
 //! | link | `from` and `to`: hosts' names, which may be the same. It has both. `least` and `most`, in ns below 2^62: 0 and no limit where they are not there |
 //!
 //! A host without tables of clocks has one clock, of its own name and numbers. Names of hosts, clocks and traces are
@@ -29,8 +29,9 @@
 //! A declaration that is refused is looked through in this order: its size; whether it is a document; its own keys,
 //! their values' shapes, their numbers; then host by host, trace by trace and link by link; at last the source. A host
 //! is looked through by table, keys, shapes of values, name, numbers and its index, addresses, and then clock by clock,
-//! each by table, keys, shapes, name, numbers and how many clocks there are; a trace and a link by table, keys, shapes,
-//! names, numbers and its index.
+//! each by table, keys, shapes, name, numbers and how many clocks there are; a trace by table, keys, shapes, names,
+//! keys that a log has not, numbers and its index, and addresses, one by one; a link by table, keys, shapes, names,
+//! numbers and its index.
 #![tactic(auto)]
 
 mod addresses;
@@ -49,11 +50,12 @@ mod limits;
 mod links;
 mod lookups;
 mod read;
+mod subnets;
 mod values;
 
 pub use addresses::{Addresses, addresses_are_dotted, addresses6_are_groups};
 pub use errors::{DeclError, Section};
-pub use items::{Address, Decl, IpVersion, Label, Link, Owner, TraceKind};
+pub use items::{Address, Decl, IpVersion, Label, Link, Owner, Subnet, TraceKind, Whereabouts};
 pub use laws::clocks_of_a_host_follow;
 pub use links::Links;
 pub use read::read_decl;

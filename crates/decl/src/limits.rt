@@ -15,5 +15,11 @@ pub(crate) const MOST_SHORT: u64 = 999_999_999;
 // By how many parts per billion it may be long at most: real time is never more than twice what it shows.
 pub(crate) const MOST_LONG: u64 = 1_000_000_000;
 
+// How many subnets a label may give: each is looked at for each address of a packet.
+pub(crate) const MOST_SUBNETS: usize = 256;
+
+// Each number of an interface is at most this, for it has four bytes.
+pub(crate) const MOST_INTERFACE: u64 = u32::MAX as u64;
+
 // Each number of nanoseconds is below this, as those of `Nano` are.
 pub(crate) const NANO_LIMIT: u64 = 1 << 62;

@@ -4,11 +4,13 @@ ghost use Rattle.std.specs.Cmp.Lexicographic.{slice_cmp};
 ghost use Rattle.std.specs.Ordering.{nat_cmp};
 ghost use Rattle.std.specs.Str.{bytes_eq};
 ghost use Rattle.problem_model.specs.Limits.{most_clocks};
-ghost use Rattle.decl.specs.Declaration.{HasLawfulLabels, declaration_of, host_at, link_bounds, follow_from};
+ghost use Rattle.decl.specs.Declaration.{HasLawfulLabels, declaration_of, host_at, is_own, is_same_segment, link_bounds, follow_from, segment_of, subnets_of, whereabouts};
+ghost use Rattle.decl.specs.Limits.{most_entries};
 
-use crate::{Decl, IpVersion, Label};
+use crate::subnets::{give_near, narrowest, place_by};
+use crate::{Decl, IpVersion, Label, Subnet, Whereabouts};
 use atto::Nano;
-use problem_model::Follow;
+use problem_model::{Follow, Name};
 use std::cmp::Ordering;
 
 // How a label's name stands to a name, in byte order.
@@ -18,7 +20,78 @@ fn compare(label: &Label, name: &[u8]) -> Ordering
     label.name.bytes().cmp(name)
 }
 
+// Whether these are the names of one segment, or none is named.
+fn is_same_segment(a: Option<Name>, b: Option<Name>) -> bool
+    ensures { result ≡ is_same_segment a b }
+{
+    match (a, b) {
+        (Some(a), Some(b)) => a == b,
+        (None, None) => true,
+        _ => false,
+    }
+}
+
+// Whether two labels are of one segment.
+fn is_beside(other: &Label, label: &Label) -> bool
+    ensures { result ≡ is_same_segment other.now.segment label.now.segment }
+{
+    is_same_segment(other.segment, label.segment)
+}
+
+// The place of the first of these labels that is of a label's segment.
+fn first_of_segment(labels: &[Label], label: &Label) -> Option<usize>
+    ensures { result ≡ position (λ other. is_same_segment other.segment label.now.segment) labels.now }
+{
+    labels.iter().position(|other| is_beside(other, label))
+}
+
 impl Decl {
+    // The subnets that a label gives.
+    fn subnets_of(&self, label: &Label) -> &[Subnet]
+        ensures { result.now ≡ subnets_of (declaration_of self.now) label.now }
+    {
+        let behind = self
+            .subnets
+            .get(label.first_subnet as usize..)
+            .unwrap_or(&[]);
+        behind.get(..label.subnet_count as usize).unwrap_or(behind)
+    }
+
+    // Whether an address is one of the host's own that count at a label.
+    fn is_own(&self, label: &Label, version: IpVersion, address: u128) -> bool
+        ensures { result ≡ is_own (declaration_of self.now) label.now version address }
+    {
+        if give_near(version, self.subnets_of(label)) {
+            return false;
+        }
+        match self.host_of(version, address) {
+            Some(host) => host == label.host,
+            None => false,
+        }
+    }
+
+    /// Where an address of this version is, the number of its octets in network byte order, as seen from where the trace of
+    /// a label was taken: on the side of the narrowest of the label's subnets that has it. The addresses of the label's host
+    /// are near, each as a subnet of its own, where the label gives no near ones of this version in their place. It takes a
+    /// step for each subnet of the label.
+    pub fn whereabouts(&self, label: &Label, version: IpVersion, address: u128) -> Whereabouts
+        ensures { result ≡ whereabouts (declaration_of self.now) label.now version address }
+    {
+        let own = self.is_own(label, version, address);
+        place_by(own, narrowest(version, address, self.subnets_of(label)))
+    }
+
+    /// The number of a label's segment: the place of the first label of it. It takes a step for each label before that.
+    pub fn segment_of(&self, label: &Label) -> u32
+        requires { length self.now.labels.items ≤ most_entries }
+        ensures { result ≡ segment_of (declaration_of self.now) label.now }
+    {
+        match first_of_segment(&self.labels, label) {
+            Some(place) => place as u32,
+            None => 0,
+        }
+    }
+
     /// The place of the host that has this address of this version, the number of its octets in network byte order; None
     /// exactly where no host has it.
     pub fn host_of(&self, version: IpVersion, address: u128) -> Option<u32>
