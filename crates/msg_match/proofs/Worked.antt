@@ -11,19 +11,19 @@ use Rattle.msg_match.specs.Windowed.{grouped_items}
 -- sent at -2, received at 8, sent again at 100, and received at 107
 sent : ℕ → List SeenItem
 sent window =
-    (record { event = 0; side = Send; key = record { message = Word (107 ∷ []); moment = Some (record { time = negsuc 1; window = window }) } })
-    ∷ (record { event = 1; side = Receive; key = record { message = Word (107 ∷ []); moment = Some (record { time = pos 107; window = window }) } })
-    ∷ (record { event = 2; side = Send; key = record { message = Word (107 ∷ []); moment = Some (record { time = pos 100; window = window }) } })
-    ∷ (record { event = 3; side = Receive; key = record { message = Word (107 ∷ []); moment = Some (record { time = pos 8; window = window }) } })
+    (record { event = 0; side = Send; key = record { message = record { segment = 0; content = Word (107 ∷ []) }; moment = Some (record { time = negsuc 1; window = window }) } })
+    ∷ (record { event = 1; side = Receive; key = record { message = record { segment = 0; content = Word (107 ∷ []) }; moment = Some (record { time = pos 107; window = window }) } })
+    ∷ (record { event = 2; side = Send; key = record { message = record { segment = 0; content = Word (107 ∷ []) }; moment = Some (record { time = pos 100; window = window }) } })
+    ∷ (record { event = 3; side = Receive; key = record { message = record { segment = 0; content = Word (107 ∷ []) }; moment = Some (record { time = pos 8; window = window }) } })
     ∷ []
 
 first_message : IsMessage (grouped_items (sent 10)) (record { send = 0; receive = 3 })
 unfolding sent
-first_message = record { key = record { message = Word (107 ∷ []); moment = Some (record { time = negsuc 1; window = 10 }) }; sent = refl; received = refl }
+first_message = record { key = record { message = record { segment = 0; content = Word (107 ∷ []) }; moment = Some (record { time = negsuc 1; window = 10 }) }; sent = refl; received = refl }
 
 second_message : IsMessage (grouped_items (sent 10)) (record { send = 2; receive = 1 })
 unfolding sent
-second_message = record { key = record { message = Word (107 ∷ []); moment = Some (record { time = pos 100; window = 10 }) }; sent = refl; received = refl }
+second_message = record { key = record { message = record { segment = 0; content = Word (107 ∷ []) }; moment = Some (record { time = pos 100; window = 10 }) }; sent = refl; received = refl }
 
 two_counted : tallies (grouped_items (sent 10)) ≡ record { messages = 2; unmatched = 0; ambiguous = 0 }
 unfolding sent

@@ -32,7 +32,7 @@ without_last g Receive = record { key = g.key; sends = g.sends; receives = short
 -- ---- tables
 -- what stands for the key of no event
 abbrev pub no_key : EventKey
-no_key = record { message = Word []; moment = None }
+no_key = record { message = record { segment = 0; content = Word [] }; moment = None }
 
 -- the group at a place
 abbrev pub group_at_place : List SeenGroup → ℕ → SeenGroup

@@ -29,4 +29,4 @@ pub use item::Item;
 pub use laws::matched_events_are_ends;
 pub use matcher::Matcher;
 pub use message_items::items_of;
-pub use traces::{Key, MessageKey, Moment, Side};
+pub use traces::{Content, Key, MessageKey, Moment, Side};

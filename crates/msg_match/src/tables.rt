@@ -11,16 +11,20 @@ use crate::entry::Entry;
 use crate::keys::Keys;
 use crate::{Group, Item};
 use std::alloc::AllocError;
-use traces::{Key, MessageKey, Moment};
+use traces::{Content, Key, MessageKey, Moment};
 
 // What a message is known by, once more; an error where memory runs out.
 fn copy_message(message: &MessageKey) -> Result<MessageKey, AllocError>
     ensures { IfOk result (λ copy. message_of copy ≡ message_of message.now) }
 {
-    match message {
-        MessageKey::Packet(packet) => Ok(MessageKey::Packet(packet.clone()?)),
-        MessageKey::Word(word) => Ok(MessageKey::Word(*word)),
-    }
+    let content = match &message.content {
+        Content::Packet(packet) => Content::Packet(packet.clone()?),
+        Content::Word(word) => Content::Word(*word),
+    };
+    Ok(MessageKey {
+        segment: message.segment,
+        content,
+    })
 }
 
 // The moment of a key at another time, where it has one.

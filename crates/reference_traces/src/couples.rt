@@ -2,7 +2,7 @@
 ghost use Rattle.std.specs.Prelude.{◌≡◌, ◌≤◌, length, IfOk, option_map, option_to_list};
 ghost use Rattle.problem_model.specs.Limits.{most_events};
 ghost use Rattle.traces.specs.declared.event.Side.TheVariants.{Send, Receive};
-ghost use Rattle.traces.specs.Seen.{is_mark, is_same_moment, seen_moment};
+ghost use Rattle.traces.specs.Seen.{is_mark, is_same_message, is_same_moment, message_of, seen_moment};
 ghost use Rattle.traces.specs.Traces.{event_count, events_of};
 ghost use Rattle.traces.specs.Messages.{couples_of, messages_of, only_two, sent_by, with_mark};
 ghost use Rattle.traces.specs.Held.{placed_in, seen_in};
@@ -24,6 +24,13 @@ fn is_same_moment(a: Option<Moment>, b: Option<Moment>) -> bool
     }
 }
 
+// Whether two messages are known by the same.
+fn is_same_message(a: &MessageKey, b: &MessageKey) -> bool
+    ensures { result ≡ is_same_message (message_of a.now) (message_of b.now) }
+{
+    a == b
+}
+
 // Whether an event is such an end of a message of this group.
 fn is_end(event: &GroupedEvent, message: &MessageKey, moment: Option<Moment>, side: Side) -> bool
     ensures { result ≡ is_mark (group_of message.now moment) side (grouped_event event.now).seen.mark }
@@ -32,7 +39,11 @@ fn is_end(event: &GroupedEvent, message: &MessageKey, moment: Option<Moment>, si
         Mark::Keyed {
             key,
             side: its_side,
-        } => *its_side == side && key.message == *message && is_same_moment(event.moment, moment),
+        } => {
+            is_same_message(&key.message, message)
+                && is_same_moment(event.moment, moment)
+                && *its_side == side
+        }
         Mark::Unkeyed(_) => false,
     }
 }

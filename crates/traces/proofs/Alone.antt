@@ -1,5 +1,5 @@
 -- Without a window each event is by itself as it is by its group.
-use Rattle.std.proofs.Common.{◌≡◌, ◌+◌, ℕ, List, [], ◌∷◌, map, Option, Some, None, Bool, true, false, Result, Ok, Err, refl, ap, ◌∙◌}
+use Rattle.std.proofs.Common.{◌≡◌, ◌+◌, ℕ, List, [], ◌∷◌, map, Option, Some, None, Bool, true, false, if◌then◌else◌, nat_lt, Result, Ok, Err, refl, ap, ◌∙◌}
 use Rattle.std.specs.Prelude.{All}
 use Rattle.std.proofs.lemmas.List.Elements.{All-append, All-cons, All-head, All-map, All-nil, All-tail}
 use Rattle.event_log.specs.declared.row.Kind.{Kind}
@@ -8,8 +8,11 @@ use Rattle.headers.specs.declared.key.PacketKey.{PacketKey}
 use Rattle.headers.specs.declared.key.Reason.{Reason}
 use Rattle.headers.specs.Decoding.{decoded}
 use Rattle.decl.specs.declared.items.Label.{Label}
-use Rattle.decl.specs.Declaration.{Declaration}
-use Rattle.traces.specs.Seen.{EventKey, Packet, SeenMark, Keyed, Unkeyed, Seen, SeenMoment, ends_at, event_of_packet, mark_by, mark_of_packet, mark_of_row, moment_of, seen_row, wanted_of}
+use Rattle.decl.specs.Declaration.{Declaration, segment_of}
+use Rattle.decl.specs.declared.items.Whereabouts.{Whereabouts}
+use Rattle.traces.specs.Seen.{EventKey, Packet, SeenMark, Keyed, Unkeyed, Seen, SeenMoment, depth, ends_of, event_of_packet, mark_by, mark_of_packet, mark_of_row, moment_of, seen_key, seen_row, wanted_of}
+use Rattle.traces.specs.declared.event.Side.TheVariants.{Send, Receive}
+use Rattle.traces.specs.declared.event.NoKey.TheVariants as without
 use Rattle.traces.specs.Traces.{Captured, Logged, Placed, Trace, Traces, events_from, events_of, numbered, seen_by, seen_of, seen_under}
 use Rattle.traces.specs.Windows.{by_group, group_key, group_mark, keys_among}
 use Rattle.traces.specs.Messages.{couples_of, messages_of}
@@ -20,22 +23,28 @@ HasNoTime (Keyed key side) = key.moment ≡ None
 HasNoTime (Unkeyed reason) = Unit {0}
 
 -- ---- events without a window tell none
-row_mark : (moment : Option SeenMoment) (kind : Kind) (key : Option (List ℕ)) → moment ≡ None → HasNoTime (mark_of_row moment kind key)
-row_mark moment kinds.Send None none = tt
-row_mark moment kinds.Send (Some key) none = none
-row_mark moment kinds.Receive None none = tt
-row_mark moment kinds.Receive (Some key) none = none
-row_mark moment kinds.Local key none = tt
+row_mark : (segment : ℕ) (moment : Option SeenMoment) (kind : Kind) (key : Option (List ℕ)) → moment ≡ None → HasNoTime (mark_of_row segment moment kind key)
+row_mark segment moment kinds.Send None none = tt
+row_mark segment moment kinds.Send (Some key) none = none
+row_mark segment moment kinds.Receive None none = tt
+row_mark segment moment kinds.Receive (Some key) none = none
+row_mark segment moment kinds.Local key none = tt
 
-side_mark : (key : EventKey) (from to : Bool) → key.moment ≡ None → HasNoTime (mark_by key from to)
-side_mark key true false none = none
-side_mark key false true none = none
-side_mark key true true none = tt
-side_mark key false false none = tt
+way_mark : (key : EventKey) (outward inward : Bool) → key.moment ≡ None → HasNoTime (if outward then Keyed key Send else if inward then Keyed key Receive else Unkeyed without.Side)
+way_mark key true inward none = none
+way_mark key false true none = none
+way_mark key false false none = tt
 
-packet_mark : (d : Declaration) (host : ℕ) (moment : Option SeenMoment) (key : Result PacketKey Reason) → moment ≡ None → HasNoTime (mark_of_packet d host moment key)
-packet_mark d host moment (Ok key) none = let ends = ends_at d host key.network in side_mark (record { message = Packet key; moment = moment }) ends.0 ends.1 none
-packet_mark d host moment (Err reason) none = tt
+side_mark : (key : EventKey) (from to : Whereabouts) → key.moment ≡ None → HasNoTime (mark_by key from to)
+side_mark key from to none = way_mark key (nat_lt (depth from) (depth to)) (nat_lt (depth to) (depth from)) none
+
+packet_mark : (d : Declaration) (l : Label) (moment : Option SeenMoment) (key : Result PacketKey Reason) → moment ≡ None → HasNoTime (mark_of_packet d l moment key)
+packet_mark d l moment (Ok key) none = let ends = ends_of d l key.network in side_mark (seen_key (segment_of d l) moment (Packet key)) ends.0 ends.1 none
+packet_mark d l moment (Err reason) none = tt
+
+other_mark : (elsewhere : Bool) (mark : SeenMark) → HasNoTime mark → HasNoTime (if elsewhere then Unkeyed without.Interface else mark)
+other_mark true mark none = tt
+other_mark false mark none = none
 
 module _ (d : Declaration) (none : d.window ≡ None) where
   no_moment : (clock stamp : ℕ) → moment_of d clock stamp ≡ None
@@ -44,15 +53,15 @@ module _ (d : Declaration) (none : d.window ≡ None) where
   abbrev Timeless : Seen → Type 0
   Timeless s = HasNoTime s.mark
 
-  trace_timeless : (host clock : ℕ) (t : Trace) → All Timeless (seen_of d host clock t)
-  trace_timeless host clock (Captured bytes capture) =
-      All-map Timeless (event_of_packet d host clock) capture.packets (λ k p within. packet_mark d host _ (decoded _ _ (wanted_of d)) (no_moment clock _))
-  trace_timeless host clock (Logged rows size) = All-map Timeless (seen_row d clock) rows (λ k r within. row_mark _ _ _ (no_moment clock _))
+  trace_timeless : (l : Label) (t : Trace) → All Timeless (seen_of d l t)
+  trace_timeless l (Captured bytes capture) =
+      All-map Timeless (event_of_packet d l) capture.packets (λ k p within. other_mark _ _ (packet_mark d l _ (decoded _ _ (wanted_of d)) (no_moment l.clock _)))
+  trace_timeless l (Logged rows size) = All-map Timeless (seen_row d l) rows (λ k r within. row_mark _ _ _ _ (no_moment l.clock _))
 
   seen_timeless : (labels : List Label) (traces : Traces) → All (All Timeless) (seen_under d labels traces)
   seen_timeless [] traces = All-nil (All Timeless)
   seen_timeless (label ∷ labels) [] = All-nil (All Timeless)
-  seen_timeless (label ∷ labels) (trace ∷ traces) = All-cons (All Timeless) _ (seen_under d labels traces) (trace_timeless label.host label.clock trace) (seen_timeless labels traces)
+  seen_timeless (label ∷ labels) (trace ∷ traces) = All-cons (All Timeless) _ (seen_under d labels traces) (trace_timeless label trace) (seen_timeless labels traces)
 
 -- ---- and so do all events
 abbrev TellsNoTime : Placed → Type 0

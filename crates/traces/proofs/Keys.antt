@@ -1,5 +1,5 @@
 -- The tests on keys say exactly whether two are one, and are those that the code derives.
-use Rattle.std.proofs.Common.{◌≡◌, ◌==◌, ℕ, List, Bool, true, Option, Some, None, refl, ap, subst}
+use Rattle.std.proofs.Common.{◌≡◌, ◌==◌, ◌&&◌, ℕ, List, Bool, true, Option, Some, None, refl, ap, subst}
 use Rattle.std.specs.Prelude.{◌↔◌}
 use Rattle.std.specs.Option.{option_eq, option_map}
 use Rattle.std.specs.Ordering.{int_eq}
@@ -8,25 +8,36 @@ use Rattle.std.proofs.lemmas.Bool.Decides.{Decides-int_eq}
 use Rattle.std.proofs.lemmas.Slice.Eq.{bytes_eq-Decides}
 use Rattle.headers.specs.declared.key.PacketKey.{PacketKey}
 use Rattle.headers.proofs.Sameness.{packets_tell, packet_test}
-use Rattle.traces.specs.Seen.{EventKey, MessageKey, Packet, Word, SeenMoment, is_same_key, is_same_message, is_same_moment, key_of, message_of, seen_moment}
+use Rattle.traces.specs.Seen.{Content, EventKey, MessageKey, Packet, Word, SeenMoment, content_of, is_same_content, is_same_key, is_same_message, is_same_moment, key_of, message_of, seen_moment}
 use Rattle.traces.specs.contracts.event.KeyPartialEq.TheImpl as eq
+use Rattle.traces.specs.contracts.event.ContentPartialEq.TheImpl as content_eq
 use Rattle.traces.specs.contracts.event.MessageKeyPartialEq.TheImpl as message_eq
 use Rattle.traces.specs.contracts.event.MomentPartialEq.TheImpl as moment_eq
 use Rattle.traces.specs.declared.event.Key.{Key}
 use Rattle.traces.specs.declared.event.MessageKey.{MessageKey as MessageKeyOfCode}
-use Rattle.traces.specs.declared.event.MessageKey.TheVariants as code
+use Rattle.traces.specs.declared.event.Content.{Content as ContentOfCode}
+use Rattle.traces.specs.declared.event.Content.TheVariants as code
 use Rattle.traces.specs.declared.event.Moment.{Moment}
 
 -- ---- what messages are known by
+same_content : (a b : Content) → is_same_content a b ≡ true → a ≡ b
+same_content (Packet a) (Packet b) is = ap (λ (k : PacketKey). Packet k) ((packets_tell a b).0 is)
+same_content (Packet a) (Word b) is = absurd (false≢true is)
+same_content (Word a) (Packet b) is = absurd (false≢true is)
+same_content (Word a) (Word b) is = ap (λ (k : List ℕ). Word k) ((bytes_eq-Decides a b).0 is)
+
+own_content : (a : Content) → is_same_content a a ≡ true
+own_content (Packet a) = (packets_tell a a).1 refl
+own_content (Word a) = (bytes_eq-Decides a a).1 refl
+
 same_message : (a b : MessageKey) → is_same_message a b ≡ true → a ≡ b
-same_message (Packet a) (Packet b) is = ap (λ (k : PacketKey). Packet k) ((packets_tell a b).0 is)
-same_message (Packet a) (Word b) is = absurd (false≢true is)
-same_message (Word a) (Packet b) is = absurd (false≢true is)
-same_message (Word a) (Word b) is = ap (λ (k : List ℕ). Word k) ((bytes_eq-Decides a b).0 is)
+same_message a b is =
+    let both = and_parts (a.segment == b.segment) (is_same_content a.content b.content) is in
+    let segment : a.segment ≡ b.segment = eqb-true a.segment b.segment both.0 in
+    rw (segment, same_content a.content b.content both.1) refl
 
 own_message : (a : MessageKey) → is_same_message a a ≡ true
-own_message (Packet a) = (packets_tell a a).1 refl
-own_message (Word a) = (bytes_eq-Decides a a).1 refl
+own_message a = and_from (a.segment == a.segment) (is_same_content a.content a.content) (eq-eqb a.segment a.segment refl) (own_content a.content)
 
 -- two messages are known by the same exactly where the test says so
 pub messages_tell : (a b : MessageKey) → (is_same_message a b ≡ true) ↔ (a ≡ b)
@@ -61,11 +72,14 @@ pub keys_tell : (a b : EventKey) → (is_same_key a b ≡ true) ↔ (a ≡ b)
 keys_tell a b = (same_key a b, λ is. subst (λ (k : EventKey). is_same_key a k ≡ true) is (own_key a))
 
 -- ---- the derived tests
+content_test : (a b : ContentOfCode) → content_eq.eq-value.it a b ≡ is_same_content (content_of a) (content_of b)
+content_test (code.Packet a) (code.Packet b) = packet_test a b
+content_test (code.Packet a) (code.Word b) = refl
+content_test (code.Word a) (code.Packet b) = refl
+content_test (code.Word a) (code.Word b) = refl
+
 pub message_test : (a b : MessageKeyOfCode) → message_eq.eq-value.it a b ≡ is_same_message (message_of a) (message_of b)
-message_test (code.Packet a) (code.Packet b) = packet_test a b
-message_test (code.Packet a) (code.Word b) = refl
-message_test (code.Word a) (code.Packet b) = refl
-message_test (code.Word a) (code.Word b) = refl
+message_test a b = ap (λ (t : Bool). (a.segment == b.segment) && t) (content_test a.content b.content)
 
 moment_test : (a b : Option Moment) → option_eq moment_eq.eq-value.it a b ≡ is_same_moment (option_map seen_moment a) (option_map seen_moment b)
 moment_test None None = refl

@@ -1,14 +1,17 @@
 -- Events of traces: what is seen of a row of a log, and of a packet.
-use Rattle.std.specs.Prelude.{ℕ, ℤ, pos, ◌-ℤ◌, List, [], map, Option, Some, None, option_map, Result, Ok, Err, Bool, true, false, ◌==◌, ◌&&◌}
+use Rattle.std.specs.Prelude.{ℕ, ℤ, pos, ◌-ℤ◌, List, [], map, Option, Some, None, option_map, Result, Ok, Err, Bool, true, false, not, ◌==◌, ◌&&◌, if◌then◌else◌, nat_lt}
 use Rattle.std.specs.Ordering.{int_eq}
 use Rattle.std.specs.Str.{bytes_eq}
 use Rattle.event_log.specs.declared.row.Kind.{Kind}
 use Rattle.event_log.specs.declared.row.Kind.TheVariants as kinds
 use Rattle.event_log.specs.declared.row.Row.{Row}
-use Rattle.decl.specs.Declaration.{Declaration, host_at, offset_of}
-use Rattle.decl.specs.declared.items.IpVersion.{IpVersion}
+use Rattle.decl.specs.Declaration.{Declaration, offset_of, segment_of, whereabouts}
+use Rattle.decl.specs.declared.items.Label.{Label}
+use Rattle.decl.specs.declared.items.Whereabouts.{Whereabouts}
+use Rattle.decl.specs.declared.items.Whereabouts.TheVariants.{Near, Unsaid, Beyond}
 use Rattle.decl.specs.declared.items.IpVersion.TheVariants as versions
 use Rattle.headers.specs.Decoding.{decoded}
+use Rattle.headers.specs.Interfaces.{interface_of}
 use Rattle.headers.specs.Keys.{is_same_packet}
 use Rattle.headers.specs.declared.key.Network.{Network}
 use Rattle.headers.specs.declared.key.Network.TheVariants.{V4, V6}
@@ -23,17 +26,23 @@ use Rattle.traces.specs.declared.event.NoKey.{NoKey}
 use Rattle.traces.specs.declared.event.NoKey.TheVariants as without
 use Rattle.traces.specs.declared.event.Key.{Key}
 use Rattle.traces.specs.declared.event.MessageKey.{MessageKey as MessageKeyOfCode}
-use Rattle.traces.specs.declared.event.MessageKey.TheVariants as code
+use Rattle.traces.specs.declared.event.Content.{Content as ContentOfCode}
+use Rattle.traces.specs.declared.event.Content.TheVariants as code
 use Rattle.traces.specs.declared.event.Moment.{Moment}
 use Rattle.traces.specs.declared.event.Mark.{Mark}
 use Rattle.traces.specs.declared.event.Mark.TheVariants as marks
 use Rattle.traces.specs.declared.event.Event.{Event}
 
 -- ---- what is seen of an event
--- what a message is known by at both of its ends: the key of a packet, or a row's word
-pub data MessageKey : Type 0 where
-  Packet : PacketKey → MessageKey
-  Word : List ℕ → MessageKey
+-- what stands in a message at both of its ends: the key of a packet, or a row's word
+pub data Content : Type 0 where
+  Packet : PacketKey → Content
+  Word : List ℕ → Content
+
+-- what a message is known by at both of its ends: the segment that its ends were seen on, by its number, and what stands in it
+pub record MessageKey : Type 0 where
+  pub segment : ℕ
+  pub content : Content
 
 -- when an event happened, and how far apart neighbouring events of one key may be, both in ns: the time is the event's
 -- stamp less the offset of its clock
@@ -59,12 +68,16 @@ pub record Seen : Type 0 where
   pub text : List ℕ
 
 -- ---- one key
--- two messages are known by the same; those of different kinds never are
+-- the same stands in two messages; those of different kinds never have the same
+abbrev pub is_same_content : Content → Content → Bool
+is_same_content (Packet a) (Packet b) = is_same_packet a b
+is_same_content (Packet a) (Word b) = false
+is_same_content (Word a) (Packet b) = false
+is_same_content (Word a) (Word b) = bytes_eq a b
+
+-- two messages are known by the same: the segment, and what stands in them
 abbrev pub is_same_message : MessageKey → MessageKey → Bool
-is_same_message (Packet a) (Packet b) = is_same_packet a b
-is_same_message (Packet a) (Word b) = false
-is_same_message (Word a) (Packet b) = false
-is_same_message (Word a) (Word b) = bytes_eq a b
+is_same_message a b = (a.segment == b.segment) && is_same_content a.content b.content
 
 -- two times are one, and their windows too; or there is neither
 abbrev pub is_same_moment : Option SeenMoment → Option SeenMoment → Bool
@@ -95,17 +108,21 @@ abbrev pub moment_of : Declaration → ℕ → ℕ → Option SeenMoment
 moment_of d clock stamp = option_map (λ window. record { time = pos stamp -ℤ offset_of d clock; window = window }) d.window
 
 -- ---- rows of logs
--- the mark of a row that happened then: its kind says which end it is
-abbrev pub mark_of_row : Option SeenMoment → Kind → Option (List ℕ) → SeenMark
-mark_of_row moment kinds.Send None = Unkeyed without.Local
-mark_of_row moment kinds.Send (Some key) = Keyed (record { message = Word key; moment = moment }) Send
-mark_of_row moment kinds.Receive None = Unkeyed without.Local
-mark_of_row moment kinds.Receive (Some key) = Keyed (record { message = Word key; moment = moment }) Receive
-mark_of_row moment kinds.Local key = Unkeyed without.Local
+-- the key of a message that was seen on this segment then
+abbrev pub seen_key : ℕ → Option SeenMoment → Content → EventKey
+seen_key segment moment content = record { message = record { segment = segment; content = content }; moment = moment }
 
--- the event of a row, whose stamp is of this clock
-abbrev pub seen_row : Declaration → ℕ → Row → Seen
-seen_row d clock row = record { stamp = row.stamp; mark = mark_of_row (moment_of d clock row.stamp) row.kind row.key; text = row.text }
+-- the mark of a row that happened on this segment then: its kind says which end it is
+abbrev pub mark_of_row : ℕ → Option SeenMoment → Kind → Option (List ℕ) → SeenMark
+mark_of_row segment moment kinds.Send None = Unkeyed without.Local
+mark_of_row segment moment kinds.Send (Some key) = Keyed (seen_key segment moment (Word key)) Send
+mark_of_row segment moment kinds.Receive None = Unkeyed without.Local
+mark_of_row segment moment kinds.Receive (Some key) = Keyed (seen_key segment moment (Word key)) Receive
+mark_of_row segment moment kinds.Local key = Unkeyed without.Local
+
+-- the event of a row of the trace of this label
+abbrev pub seen_row : Declaration → Label → Row → Seen
+seen_row d l row = record { stamp = row.stamp; mark = mark_of_row (segment_of d l) (moment_of d l.clock row.stamp) row.kind row.key; text = row.text }
 
 -- ---- packets
 -- why a packet has no key
@@ -117,45 +134,54 @@ no_key reasons.Header = without.Header
 no_key reasons.Fragment = without.Fragment
 no_key reasons.Length = without.Length
 
--- the host that has an address is this one
-abbrev pub is_host : Option ℕ → ℕ → Bool
-is_host None host = false
-is_host (Some other) host = other == host
+-- where a packet comes from and where it goes, as seen from where the trace of this label was taken
+abbrev pub ends_of : Declaration → Label → Network → Whereabouts × Whereabouts
+ends_of d l (V4 source target id) = (whereabouts d l versions.V4 source, whereabouts d l versions.V4 target)
+ends_of d l (V6 source target) = (whereabouts d l versions.V6 source, whereabouts d l versions.V6 target)
 
--- whether an address of a version is one of this host
-abbrev pub is_at : Declaration → ℕ → IpVersion → ℕ → Bool
-is_at d host version address = is_host (host_at d version address) host
+-- how far out an address is: near, or it is not said, or beyond
+abbrev pub depth : Whereabouts → ℕ
+depth Near = 0
+depth Unsaid = 1
+depth Beyond = 2
 
--- whether a packet comes from this host, and whether it goes there
-abbrev pub ends_at : Declaration → ℕ → Network → Bool × Bool
-ends_at d host (V4 source target id) = (is_at d host versions.V4 source, is_at d host versions.V4 target)
-ends_at d host (V6 source target) = (is_at d host versions.V6 source, is_at d host versions.V6 target)
+-- a packet that goes outward was sent there, and one that comes inward was received; where it does neither, it has no side
+abbrev pub mark_by : EventKey → Whereabouts → Whereabouts → SeenMark
+mark_by key from to = if nat_lt (depth from) (depth to) then Keyed key Send else if nat_lt (depth to) (depth from) then Keyed key Receive else Unkeyed without.Side
 
--- a packet that a host sent, or received; where both of its addresses or neither are the host's it has no side
-abbrev pub mark_by : EventKey → Bool → Bool → SeenMark
-mark_by key true false = Keyed key Send
-mark_by key false true = Keyed key Receive
-mark_by key true true = Unkeyed without.Side
-mark_by key false false = Unkeyed without.Side
+-- the mark of a packet that was seen then, by what its headers say
+abbrev pub mark_of_packet : Declaration → Label → Option SeenMoment → Result PacketKey Reason → SeenMark
+mark_of_packet d l moment (Ok key) = let ends = ends_of d l key.network in mark_by (seen_key (segment_of d l) moment (Packet key)) ends.0 ends.1
+mark_of_packet d l moment (Err reason) = Unkeyed (no_key reason)
 
--- the mark of a packet that passed a host then, by what its headers say
-abbrev pub mark_of_packet : Declaration → ℕ → Option SeenMoment → Result PacketKey Reason → SeenMark
-mark_of_packet d host moment (Ok key) = let ends = ends_at d host key.network in mark_by (record { message = Packet key; moment = moment }) ends.0 ends.1
-mark_of_packet d host moment (Err reason) = Unkeyed (no_key reason)
+-- a packet of this interface is none of the interface whose packets have keys, where a label names one
+abbrev pub is_elsewhere : Option ℕ → Option ℕ → Bool
+is_elsewhere None interface = false
+is_elsewhere (Some own) None = true
+is_elsewhere (Some own) (Some interface) = not (own == interface)
 
 -- what belongs to the key of a packet
 abbrev pub wanted_of : Declaration → Wanted
 wanted_of d = record { payload_bytes = d.payload_bytes; tcp_options = d.tcp_options; fragments = d.fragments }
 
--- the event of a packet that was captured at a host, by one of its clocks
-abbrev pub event_of_packet : Declaration → ℕ → ℕ → captured.Seen → Seen
-event_of_packet d host clock p = record { stamp = p.stamp; mark = mark_of_packet d host (moment_of d clock p.stamp) (decoded p.link p.bytes (wanted_of d)); text = [] }
+-- the mark of a packet in the trace of this label: it has no key where it was captured on another interface
+abbrev pub mark_seen : Declaration → Label → captured.Seen → SeenMark
+mark_seen d l p = if is_elsewhere l.interface (interface_of p.link p.interface p.bytes) then Unkeyed without.Interface
+    else mark_of_packet d l (moment_of d l.clock p.stamp) (decoded p.link p.bytes (wanted_of d))
+
+-- the event of a packet in the trace of this label
+abbrev pub event_of_packet : Declaration → Label → captured.Seen → Seen
+event_of_packet d l p = record { stamp = p.stamp; mark = mark_seen d l p; text = [] }
 
 -- ---- events of the code
+-- what stands in a message
+abbrev pub content_of : ContentOfCode → Content
+content_of (code.Packet key) = Packet key
+content_of (code.Word key) = Word key
+
 -- what a message is known by
 abbrev pub message_of : MessageKeyOfCode → MessageKey
-message_of (code.Packet key) = Packet key
-message_of (code.Word key) = Word key
+message_of m = record { segment = m.segment; content = content_of m.content }
 
 -- when an event happened
 abbrev pub seen_moment : Moment → SeenMoment

@@ -58,16 +58,16 @@ IsOfKind Log (Captured bytes capture) = ⊥
 IsOfKind Log (Logged rows size) = Unit {0}
 
 -- ---- what it says
--- the events of what was accepted under a label of this host and this clock, in its order
-abbrev pub seen_of : Declaration → ℕ → ℕ → Trace → List Seen
-seen_of d host clock (Captured bytes capture) = map (event_of_packet d host clock) capture.packets
-seen_of d host clock (Logged rows size) = map (seen_row d clock) rows
+-- the events of what was accepted under this label, in its order
+abbrev pub seen_of : Declaration → Label → Trace → List Seen
+seen_of d l (Captured bytes capture) = map (event_of_packet d l) capture.packets
+seen_of d l (Logged rows size) = map (seen_row d l) rows
 
 -- the events of each label, by what was accepted under it
 abbrev pub seen_under : Declaration → List Label → Traces → List (List Seen)
 seen_under d [] traces = []
 seen_under d (label ∷ labels) [] = []
-seen_under d (label ∷ labels) (trace ∷ traces) = seen_of d label.host label.clock trace ∷ seen_under d labels traces
+seen_under d (label ∷ labels) (trace ∷ traces) = seen_of d label trace ∷ seen_under d labels traces
 
 -- the events of each label of a declaration
 abbrev pub seen_by : Declaration → Traces → List (List Seen)

@@ -1,14 +1,14 @@
 // Events of captures.
 ghost use Rattle.std.specs.Prelude.{◌≡◌, map, option_map, IfOk};
 ghost use Rattle.captures.specs.Feeding.{seen_packet, seen_packets};
-ghost use Rattle.decl.specs.Declaration.{IsDeclaration, declaration_of};
-ghost use Rattle.traces.specs.Seen.{ends_at, event_of_packet, is_at, key_of, mark_by, mark_of, mark_of_packet, no_key, seen_event, seen_events, seen_moment, wanted_of};
+ghost use Rattle.decl.specs.Declaration.{IsDeclaration, declaration_of, segment_of};
+ghost use Rattle.traces.specs.Seen.{depth, ends_of, event_of_packet, is_elsewhere, key_of, mark_by, mark_of, mark_of_packet, mark_seen, no_key, seen_event, seen_events, seen_moment, wanted_of};
 
 use crate::moments::moment_of;
-use crate::{Event, Key, Mark, MessageKey, Moment, NoKey, Side};
+use crate::{Content, Event, Key, Mark, MessageKey, Moment, NoKey, Side};
 use captures::Packet;
-use decl::{Decl, IpVersion};
-use headers::{Network, PacketKey, Reason, Wanted, decode};
+use decl::{Decl, IpVersion, Label, Whereabouts};
+use headers::{Network, PacketKey, Reason, Wanted, decode, interface_of};
 use std::alloc::{AllocError, Global};
 
 // Why an event has no key, whose packet has none.
@@ -25,65 +25,82 @@ fn no_key(reason: Reason) -> NoKey
     }
 }
 
-// Whether an address of this version is one of this host.
-fn is_at(decl: &Decl, host: u32, version: IpVersion, address: u128) -> bool
-    ensures { result ≡ is_at (declaration_of decl.now) host version address }
-{
-    match decl.host_of(version, address) {
-        Some(other) => other == host,
-        None => false,
-    }
-}
-
-// Whether a packet comes from this host, and whether it goes there.
-fn ends_at(decl: &Decl, host: u32, network: Network) -> (bool, bool)
-    ensures { result ≡ ends_at (declaration_of decl.now) host network }
+// Where a packet comes from and where it goes, as seen from where the trace of this label was taken.
+fn ends_of(decl: &Decl, label: &Label, network: Network) -> (Whereabouts, Whereabouts)
+    ensures { result ≡ ends_of (declaration_of decl.now) label.now network }
 {
     match network {
         Network::V4 { source, target, .. } => (
-            is_at(decl, host, IpVersion::V4, u128::from(source)),
-            is_at(decl, host, IpVersion::V4, u128::from(target)),
+            decl.whereabouts(label, IpVersion::V4, u128::from(source)),
+            decl.whereabouts(label, IpVersion::V4, u128::from(target)),
         ),
         Network::V6 { source, target } => (
-            is_at(decl, host, IpVersion::V6, source),
-            is_at(decl, host, IpVersion::V6, target),
+            decl.whereabouts(label, IpVersion::V6, source),
+            decl.whereabouts(label, IpVersion::V6, target),
         ),
     }
 }
 
-// The mark of a packet of this key, by whether it comes from the host and whether it goes there.
-fn mark_by(key: Key, from_host: bool, to_host: bool) -> Mark
-    ensures { mark_of result ≡ mark_by (key_of key) from_host to_host }
+// How far out an address is.
+fn depth(whereabouts: Whereabouts) -> u8
+    ensures { result ≡ depth whereabouts }
 {
-    match (from_host, to_host) {
-        (true, false) => Mark::Keyed {
-            key,
-            side: Side::Send,
-        },
-        (false, true) => Mark::Keyed {
-            key,
-            side: Side::Receive,
-        },
-        _ => Mark::Unkeyed(NoKey::Side),
+    match whereabouts {
+        Whereabouts::Near => 0,
+        Whereabouts::Unsaid => 1,
+        Whereabouts::Beyond => 2,
     }
 }
 
-// The mark of a packet that passed a host then, by what its headers say.
+// The mark of a packet of this key, by where it comes from and where it goes.
+fn mark_by(key: Key, from: Whereabouts, to: Whereabouts) -> Mark
+    ensures { mark_of result ≡ mark_by (key_of key) from to }
+{
+    if depth(from) < depth(to) {
+        Mark::Keyed {
+            key,
+            side: Side::Send,
+        }
+    } else if depth(to) < depth(from) {
+        Mark::Keyed {
+            key,
+            side: Side::Receive,
+        }
+    } else {
+        Mark::Unkeyed(NoKey::Side)
+    }
+}
+
+// The mark of a packet that was seen on this segment then, by what its headers say.
 fn mark_of_packet(
     decl: &Decl,
-    host: u32,
+    label: &Label,
+    segment: u32,
     moment: Option<Moment>,
     decoded: Result<PacketKey, Reason>,
 ) -> Mark
-    ensures { mark_of result ≡ mark_of_packet (declaration_of decl.now) host (option_map seen_moment moment) decoded }
+    requires { segment ≡ segment_of (declaration_of decl.now) label.now }
+    ensures { mark_of result ≡ mark_of_packet (declaration_of decl.now) label.now (option_map seen_moment moment) decoded }
 {
     match decoded {
         Ok(packet) => {
-            let (from_host, to_host) = ends_at(decl, host, packet.network);
-            let message = MessageKey::Packet(packet);
-            mark_by(Key { message, moment }, from_host, to_host)
+            let (from, to) = ends_of(decl, label, packet.network);
+            let content = Content::Packet(packet);
+            let message = MessageKey { segment, content };
+            mark_by(Key { message, moment }, from, to)
         }
         Err(reason) => Mark::Unkeyed(no_key(reason)),
+    }
+}
+
+// Whether a packet of this interface is none of the interface whose packets have keys, where a label names one.
+fn is_elsewhere(own: Option<u32>, interface: Option<u32>) -> bool
+    ensures { result ≡ is_elsewhere own interface }
+{
+    match (own, interface) {
+        (None, _) => false,
+        (Some(_), None) => true,
+        (Some(own), Some(interface)) => own != interface,
     }
 }
 
@@ -98,39 +115,53 @@ fn wanted_of(decl: &Decl) -> Wanted
     }
 }
 
-// The event of a packet that was captured at a host, by one of its clocks.
-fn event_of_packet(decl: &Decl, host: u32, clock: u32, packet: &Packet) -> Event
-    requires { IsDeclaration (declaration_of decl.now) }
-    ensures { seen_event result ≡ event_of_packet (declaration_of decl.now) host clock (seen_packet packet.now) }
+// The mark of a packet in the trace of this label.
+fn mark_seen(decl: &Decl, label: &Label, segment: u32, packet: &Packet) -> Mark
+    requires lawful { IsDeclaration (declaration_of decl.now) }
+    requires segment { segment ≡ segment_of (declaration_of decl.now) label.now }
+    ensures { mark_of result ≡ mark_seen (declaration_of decl.now) label.now (seen_packet packet.now) }
 {
+    let interface = interface_of(packet.link, packet.interface, &packet.bytes);
+    if is_elsewhere(label.interface, interface) {
+        return Mark::Unkeyed(NoKey::Interface);
+    }
     let decoded = decode(packet.link, &packet.bytes, wanted_of(decl));
-    let moment = moment_of(decl, clock, packet.stamp);
+    let moment = moment_of(decl, label.clock, packet.stamp);
+    mark_of_packet(decl, label, segment, moment, decoded)
+}
+
+// The event of a packet in the trace of this label.
+fn event_of_packet(decl: &Decl, label: &Label, segment: u32, packet: &Packet) -> Event
+    requires lawful { IsDeclaration (declaration_of decl.now) }
+    requires segment { segment ≡ segment_of (declaration_of decl.now) label.now }
+    ensures { seen_event result ≡ event_of_packet (declaration_of decl.now) label.now (seen_packet packet.now) }
+{
     Event {
         stamp: packet.stamp,
-        mark: mark_of_packet(decl, host, moment, decoded),
+        mark: mark_seen(decl, label, segment, packet),
         text: None,
     }
 }
 
-/// The events of packets that were captured at a host and stamped by one of its clocks, in their order; an error where
-/// memory runs out.
+/// The events of packets in the trace of this label, in their order; an error where memory runs out.
 ///
-/// A host and a clock go by their places. A packet is a send where its source is an address of the host and its
-/// destination is none, and a receive the other way round; a packet of IPv6 goes by addresses of IPv6. Of a payload at most
-/// 64 bytes are in the key. Where a window is declared, it happened at its stamp less the offset of the clock.
+/// A packet that was captured on another interface than the label's has no key. Any other one is a send where it goes
+/// outward, from an address that is near to any other, or to one that is beyond from any other; and a receive where it comes
+/// inward (`Decl::whereabouts`). Of a payload at most 64 bytes are in the key. Where a window is declared, it happened at its
+/// stamp less the offset of the clock.
 pub fn packet_events(
     alloc: Global,
     decl: &Decl,
-    host: u32,
-    clock: u32,
+    label: &Label,
     packets: &[Packet],
 ) -> Result<Vec<Event>, AllocError>
     requires { IsDeclaration (declaration_of decl.now) }
-    ensures { IfOk result (λ events. seen_events events.items ≡ map (event_of_packet (declaration_of decl.now) host clock) (seen_packets packets.now)) }
+    ensures { IfOk result (λ events. seen_events events.items ≡ map (event_of_packet (declaration_of decl.now) label.now) (seen_packets packets.now)) }
 {
+    let segment = decl.segment_of(label);
     let mut events = Vec::with_capacity(alloc, packets.len())?;
     for packet in packets {
-        events.push(event_of_packet(decl, host, clock, packet))?;
+        events.push(event_of_packet(decl, label, segment, packet))?;
     }
     Ok(events)
 }

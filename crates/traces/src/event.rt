@@ -12,13 +12,22 @@ pub enum Side {
     Receive,
 }
 
-/// What a message is known by at both of its ends. Those of different kinds are never equal.
+/// What stands in a message at both of its ends. Those of different kinds are never equal.
 #[derive(Debug, PartialEq, Eq, PartialOrd, Ord, Drop)]
-pub enum MessageKey {
+pub enum Content {
     /// A packet, by its headers and the beginning of its payload.
     Packet(PacketKey),
     /// A message of event logs, by its word.
     Word(WordKey),
+}
+
+/// What a message is known by at both of its ends.
+#[derive(Debug, PartialEq, Eq, PartialOrd, Ord, Drop)]
+pub struct MessageKey {
+    /// The segment that its ends were seen on, by the place of the first label of it.
+    pub segment: u32,
+    /// What stands in it.
+    pub content: Content,
 }
 
 /// When an event happened, where a window is declared.
@@ -55,8 +64,10 @@ pub enum NoKey {
     Fragment,
     /// A length in the packet does not fit the others.
     Length,
-    /// The packet comes from its label's host and goes there, or neither.
+    /// The packet neither goes outward nor comes inward at its label.
     Side,
+    /// The packet was captured on another interface than that of its label, or its capture does not say on which.
+    Interface,
     /// The row of an event log says that no other host took part.
     Local,
 }

@@ -16,7 +16,7 @@ mod rows;
 
 pub use accepted::{Accepted, Stream};
 pub use captured::packet_events;
-pub use event::{Event, Key, Mark, MessageKey, Moment, NoKey, Side};
+pub use event::{Content, Event, Key, Mark, MessageKey, Moment, NoKey, Side};
 pub use event_id::{Couple, EventId, PlacedEvent};
 pub use event_names::{event_name, name_of};
 pub use event_places::{event_count, events};

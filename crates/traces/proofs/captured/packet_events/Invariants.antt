@@ -6,4 +6,4 @@ use Rattle.traces.proofs.captured.packet_events.Given as goal
 
 -- the events so far and those of the packets from this place on are all
 abbrev pub invariant-loop-packet : goal.invariant-loop-packet
-invariant-loop-packet l = seen_events l.events.items ++ map (event_of_packet (declaration_of l.decl) l.host l.clock) (seen_packets (drop l.packet-index l.packets)) ≡ map (event_of_packet (declaration_of l.decl) l.host l.clock) (seen_packets l.packets)
+invariant-loop-packet l = seen_events l.events.items ++ map (event_of_packet (declaration_of l.decl) l.label) (seen_packets (drop l.packet-index l.packets)) ≡ map (event_of_packet (declaration_of l.decl) l.label) (seen_packets l.packets)

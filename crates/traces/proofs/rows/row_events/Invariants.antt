@@ -5,4 +5,4 @@ use Rattle.traces.proofs.rows.row_events.Given as goal
 
 -- the events so far are those of the rows so far
 abbrev pub invariant-loop-row : goal.invariant-loop-row
-invariant-loop-row l = seen_events l.events.items ≡ map (seen_row (declaration_of l.decl) l.clock) l.yielded
+invariant-loop-row l = seen_events l.events.items ≡ map (seen_row (declaration_of l.decl) l.label) l.yielded
