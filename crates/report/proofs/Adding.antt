@@ -31,6 +31,7 @@ abbrev lacks_any : SeenMark → ℕ
 lacks_any m =
     lacks without.Link m + lacks without.Other m + lacks without.Short m + lacks without.Header m
     + lacks without.Fragment m + lacks without.Length m + lacks without.Side m + lacks without.Local m
+    + lacks without.Interface m
 
 one_mark : (keys : List EventKey) (id : EventId) (m : SeenMark) → 1 ≡ length (end_by_mark id (group_mark keys m)) + lacks_any m
 one_mark keys id (Keyed key side) = refl
@@ -42,6 +43,7 @@ one_mark keys id (Unkeyed without.Fragment) = refl
 one_mark keys id (Unkeyed without.Length) = refl
 one_mark keys id (Unkeyed without.Side) = refl
 one_mark keys id (Unkeyed without.Local) = refl
+one_mark keys id (Unkeyed without.Interface) = refl
 
 counted_cons : (reason : NoKey) (e : Placed) (more : List Placed) → count_without (e ∷ more) reason ≡ lacks reason e.seen.mark + count_without more reason
 counted_cons reason e more = sum_by-cons (λ (x : Placed). lacks reason x.seen.mark) e more
@@ -65,6 +67,7 @@ keyed_or_not keys (e ∷ more) =
       counted_cons without.Length e more,
       counted_cons without.Side e more,
       counted_cons without.Local e more,
+      counted_cons without.Interface e more,
       keyed_or_not keys more,
     )
 

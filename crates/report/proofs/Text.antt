@@ -1,13 +1,49 @@
 -- A report has whole numbers alone, so its text is known byte for byte.
 use Rattle.std.proofs.Common.{◌≡◌, ℕ, Bool, cond, List, [], ◌∷◌, ◌++◌, true, false, Option, Some, None, length, ◌≤◌, map, Result, refl, sym, subst, ap, ◌∙◌, arith}
-use Rattle.std.specs.Prelude.{codes, OnOk}
+use Rattle.std.specs.Prelude.{codes, OnOk, ◌==◌}
 use Rattle.serde_json.specs.Data.{Data, Members, boolean, member, no_members, object, put, string}
 use Rattle.serde_json.specs.View.{items_of}
 use Rattle.serde_json.specs.Written.{has_float, items_have_float, compact_text}
 use Rattle.report.specs.Report.{Reported, ReportedDrops, ReportedKey, count, dropped_data, drops_data, group_data, groups_data, nokey_data, passed_data, passes_none, report_data, report_line, report_members, with_alone, with_dropped}
+use Rattle.report.specs.declared.view.NoKeys.{NoKeys}
 use Rattle.report.specs.declared.view.PassedSums.{PassedSums}
-use Rattle.report.specs.Inside.{all_members, put_alone, put_dropped, put_passed}
+use Rattle.report.specs.Inside.{all_members, nokey_members, put_alone, put_dropped, put_interface, put_passed}
 
+-- ---- what has no key
+-- its members behind that of another interface
+abbrev others : NoKeys → Members
+others n =
+    member (codes "length") (count n.length) (
+    member (codes "link") (count n.link) (
+    member (codes "local") (count n.local) (
+    member (codes "other") (count n.other) (
+    member (codes "short") (count n.short) (
+    member (codes "side") (count n.side)
+    no_members)))))
+
+-- its data, by whether no packet is of another interface
+abbrev nokey_by : NoKeys → Bool → Data
+nokey_by n none = object (
+    member (codes "fragment") (count n.fragment) (
+    member (codes "header") (count n.header) (
+    cond none (others n) (member (codes "interface") (count n.interface) (others n)))))
+
+nokey_whole : (n : NoKeys) → has_float (nokey_data n) ≡ false
+nokey_whole n = by (n.interface == 0)
+  where
+    by : (none : Bool) → has_float (nokey_by n none) ≡ false
+    by true = refl
+    by false = refl
+
+-- the members that were put are those of what has no key
+pub put_nokeys : (n : NoKeys) → object (put_interface n.interface (nokey_members n)) ≡ nokey_data n
+put_nokeys n = by (n.interface == 0)
+  where
+    by : (none : Bool) → object (cond none (nokey_members n) (put (codes "interface") (count n.interface) (nokey_members n))) ≡ nokey_by n none
+    by true = refl
+    by false = refl
+
+-- ---- the whole report
 -- the members of a report with this count of keys and on these labels with drops, by whether no packet was passed over
 abbrev members_by : Reported → Option ℕ → List ReportedDrops → Bool → Members
 members_by v alone ds none =
@@ -41,14 +77,14 @@ report_whole : (v : Reported) → has_float (report_data v) ≡ false
 report_whole v = by v.alone v.dropped (passes_none v.passed)
   where
     by : (alone : Option ℕ) (ds : List ReportedDrops) (none : Bool) → has_float (object (members_by v alone ds none)) ≡ false
-    by None [] true = rw (groups_whole v.groups) refl
-    by None [] false = rw (groups_whole v.groups) refl
-    by None (d ∷ ds) true = rw (groups_whole v.groups, drops_whole ds) refl
-    by None (d ∷ ds) false = rw (groups_whole v.groups, drops_whole ds) refl
-    by (Some n) [] true = rw (groups_whole v.groups) refl
-    by (Some n) [] false = rw (groups_whole v.groups) refl
-    by (Some n) (d ∷ ds) true = rw (groups_whole v.groups, drops_whole ds) refl
-    by (Some n) (d ∷ ds) false = rw (groups_whole v.groups, drops_whole ds) refl
+    by None [] true = rw (groups_whole v.groups, nokey_whole v.nokeys) refl
+    by None [] false = rw (groups_whole v.groups, nokey_whole v.nokeys) refl
+    by None (d ∷ ds) true = rw (groups_whole v.groups, drops_whole ds, nokey_whole v.nokeys) refl
+    by None (d ∷ ds) false = rw (groups_whole v.groups, drops_whole ds, nokey_whole v.nokeys) refl
+    by (Some n) [] true = rw (groups_whole v.groups, nokey_whole v.nokeys) refl
+    by (Some n) [] false = rw (groups_whole v.groups, nokey_whole v.nokeys) refl
+    by (Some n) (d ∷ ds) true = rw (groups_whole v.groups, drops_whole ds, nokey_whole v.nokeys) refl
+    by (Some n) (d ∷ ds) false = rw (groups_whole v.groups, drops_whole ds, nokey_whole v.nokeys) refl
 
 -- the members that were put are those of the report
 pub put_all : (v : Reported) → put_alone v.alone (put_passed v.passed (put_dropped v.dropped (all_members v))) ≡ report_members v

@@ -12,7 +12,7 @@ use Rattle.report.specs.Alone.{alone_among}
 abbrev end_of : ℕ → List ℕ → ℕ → Side → End
 end_of n word begin side = record {
   id = record { label = 0; number = n };
-  key = record { message = Word word; moment = Some (record { time = pos begin; window = 10 }) };
+  key = record { message = record { segment = 0; content = Word word }; moment = Some (record { time = pos begin; window = 10 }) };
   side = side;
 }
 

@@ -9,7 +9,7 @@ listed_with_key g = length g.sends + length g.receives
 
 -- how many events have no key, whatever the reason
 abbrev pub all_without : NoKeys → ℕ
-all_without n = n.link + n.other + n.short + n.header + n.fragment + n.length + n.side + n.local
+all_without n = n.link + n.other + n.short + n.header + n.fragment + n.length + n.side + n.local + n.interface
 
 -- each event is an end of a message, unmatched, listed with a key, or without one
 abbrev pub AddUp : Reported → Type 0

@@ -1,5 +1,5 @@
 -- What the parts of a report promise each other.
-use Rattle.std.specs.Prelude.{ℕ, ◌+◌, ◌*◌, ◌^◌, ◌<◌, ◌≤◌, List, [], ◌∷◌, length, map, count_by, cond, codes, All, Option, Some, None}
+use Rattle.std.specs.Prelude.{ℕ, ◌+◌, ◌*◌, ◌^◌, ◌<◌, ◌≤◌, List, [], ◌∷◌, length, map, count_by, cond, ◌==◌, codes, All, Option, Some, None}
 use Rattle.captures.specs.Capture.{Passed}
 use Rattle.serde_json.specs.Data.{Members, boolean, member, no_members, put}
 use Rattle.decl.specs.Declaration.{Declaration}
@@ -9,6 +9,7 @@ use Rattle.traces.specs.declared.event_id.EventId.{EventId}
 use Rattle.roster.specs.Roster.{RosterLists, id_of}
 use Rattle.msg_match.specs.Ambiguous.{EndGroup}
 use Rattle.report.specs.declared.ambiguous.Ambiguous.{Ambiguous}
+use Rattle.report.specs.declared.view.NoKeys.{NoKeys}
 use Rattle.report.specs.declared.view.PassedSums.{PassedSums}
 use Rattle.report.specs.Report.{Reported, ReportedDrops, count, dropped_data, groups_data, nokey_data, passed_data, passes_none}
 use Rattle.report.specs.Reports.{has_no_key_for}
@@ -46,6 +47,24 @@ pub record AreOfLabels (labels : ℕ) (s : PassedSums) : Type 0 where
   pub simple : s.simple ≤ labels * 2 ^ 32
   pub obsolete : s.obsolete ≤ labels * 2 ^ 32
   pub other : s.other ≤ labels * 2 ^ 32
+
+-- ---- the members of what has no key
+-- those that it always has
+abbrev pub nokey_members : NoKeys → Members
+nokey_members n =
+    member (codes "fragment") (count n.fragment) (
+    member (codes "header") (count n.header) (
+    member (codes "length") (count n.length) (
+    member (codes "link") (count n.link) (
+    member (codes "local") (count n.local) (
+    member (codes "other") (count n.other) (
+    member (codes "short") (count n.short) (
+    member (codes "side") (count n.side)
+    no_members)))))))
+
+-- these with the packets of another interface, if there are any
+abbrev pub put_interface : ℕ → Members → Members
+put_interface n members = cond (n == 0) members (put (codes "interface") (count n) members)
 
 -- ---- the members of a report
 -- those that every report has

@@ -11,7 +11,7 @@ use Rattle.headers.specs.declared.key.Segment.{Segment}
 use Rattle.headers.specs.declared.key.Transport.{Transport}
 use Rattle.headers.specs.declared.key.Transport.TheVariants.{Fragment, Tcp, Udp}
 use Rattle.headers.specs.declared.key.UserDatagram.{UserDatagram}
-use Rattle.traces.specs.Seen.{MessageKey, Packet, Word}
+use Rattle.traces.specs.Seen.{Content, MessageKey, Packet, Word}
 
 -- an IPv4 address of 32 bits: its four bytes as decimals, with dots between
 abbrev pub dotted : ℕ → List ℕ
@@ -90,11 +90,11 @@ packet_words network (Tcp s) = codes "tcp" ∷ network_words network s.source_po
 packet_words network (Udp d) = codes "udp" ∷ network_words network d.source_port d.target_port ++ datagram_words d
 packet_words network (Fragment p) = codes "fragment" ∷ address_words network ++ piece_words p
 
--- the words of what a message is known by
-abbrev pub key_words : MessageKey → List (List ℕ)
+-- the words of what stands in a message
+abbrev pub key_words : Content → List (List ℕ)
 key_words (Word w) = codes "log" ∷ w ∷ []
 key_words (Packet k) = packet_words k.network k.transport
 
--- its text
+-- the text of what a message is known by, whatever segment it was seen on
 abbrev pub key_text : MessageKey → List ℕ
-key_text key = words (key_words key)
+key_text key = words (key_words key.content)

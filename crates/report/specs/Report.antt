@@ -55,18 +55,23 @@ group_data g = object (
 abbrev pub groups_data : List ReportedKey → Data
 groups_data gs = array (items_of (map group_data gs))
 
+-- how many are of another interface, if any are, before these
+abbrev pub with_interface : ℕ → Members → Members
+with_interface n more = cond (n == 0) more (member (codes "interface") (count n) more)
+
 -- how many events have no key, by reason
 abbrev pub nokey_data : NoKeys → Data
 nokey_data n = object (
     member (codes "fragment") (count n.fragment) (
     member (codes "header") (count n.header) (
+    with_interface n.interface (
     member (codes "length") (count n.length) (
     member (codes "link") (count n.link) (
     member (codes "local") (count n.local) (
     member (codes "other") (count n.other) (
     member (codes "short") (count n.short) (
     member (codes "side") (count n.side)
-    no_members))))))))
+    no_members)))))))))
 
 -- how many packets were dropped under a label, by where
 abbrev pub drops_data : ReportedDrops → Data

@@ -33,6 +33,7 @@ is_reason without.Fragment without.Fragment = true
 is_reason without.Length without.Length = true
 is_reason without.Side without.Side = true
 is_reason without.Local without.Local = true
+is_reason without.Interface without.Interface = true
 is_reason _ _ = false
 
 -- whether an event with this mark has no key, for this reason
@@ -55,6 +56,7 @@ nokeys_of events = record {
   length = count_without events without.Length;
   side = count_without events without.Side;
   local = count_without events without.Local;
+  interface = count_without events without.Interface;
 }
 
 -- ---- packets that were passed over

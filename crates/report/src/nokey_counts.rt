@@ -23,6 +23,7 @@ fn is_reason(reason: NoKey, other: NoKey) -> bool
         NoKey::Length => matches!(other, NoKey::Length),
         NoKey::Side => matches!(other, NoKey::Side),
         NoKey::Local => matches!(other, NoKey::Local),
+        NoKey::Interface => matches!(other, NoKey::Interface),
     }
 }
 
@@ -76,5 +77,6 @@ pub(crate) fn nokeys_of(accepted: &[Accepted]) -> NoKeys
         length: count_without(accepted, NoKey::Length),
         side: count_without(accepted, NoKey::Side),
         local: count_without(accepted, NoKey::Local),
+        interface: count_without(accepted, NoKey::Interface),
     }
 }

@@ -6,7 +6,7 @@ ghost use Rattle.atto.specs.Decimal.{decimal_of};
 ghost use Rattle.line_format.specs.Words.{words};
 ghost use Rattle.headers.specs.declared.key.Transport.TheVariants.{Tcp, Udp};
 ghost use Rattle.traces.specs.Seen.{message_of, Packet, Word};
-ghost use Rattle.report.specs.KeyTexts.{datagram_words, endpoint, key_text, network_words, option_words, packet_words, payload_word, segment_words, wide_endpoint};
+ghost use Rattle.report.specs.KeyTexts.{datagram_words, endpoint, key_text, key_words, network_words, option_words, packet_words, payload_word, segment_words, wide_endpoint};
 
 use crate::fragments::fragment_text;
 use crate::key_parts::{push_decimal, push_endpoint, push_payload, push_wide_endpoint};
@@ -14,7 +14,7 @@ use event_log::WordKey;
 use headers::{Network, PacketKey, Segment, Transport, UserDatagram};
 use ports::push_word;
 use std::alloc::{AllocError, Global};
-use traces::MessageKey;
+use traces::{Content, MessageKey};
 
 // Appends an address of IPv4 with its port behind a space.
 fn push_end(text: &mut Vec<u8>, address: u32, port: u16) -> Result<(), AllocError>
@@ -145,7 +145,7 @@ fn udp_text(alloc: Global, network: Network, datagram: &UserDatagram) -> Result<
 
 // The text of the key of a packet.
 fn packet_text(alloc: Global, key: &PacketKey) -> Result<Vec<u8>, AllocError>
-    ensures text { IfOk result (λ text. text.items ≡ key_text (Packet key.now)) }
+    ensures text { IfOk result (λ text. text.items ≡ words (key_words (Packet key.now))) }
     ensures ascii { IfOk result (λ text. IsAscii text.items) }
 {
     match &key.transport {
@@ -157,7 +157,7 @@ fn packet_text(alloc: Global, key: &PacketKey) -> Result<Vec<u8>, AllocError>
 
 // The text of the word of a message in event logs.
 fn word_text(alloc: Global, word: &WordKey) -> Result<Vec<u8>, AllocError>
-    ensures text { IfOk result (λ text. text.items ≡ key_text (Word word.now)) }
+    ensures text { IfOk result (λ text. text.items ≡ words (key_words (Word word.now))) }
     ensures ascii { IfOk result (λ text. IsAscii text.items) }
 {
     let mut text = Vec::from_slice(alloc, b"log")?;
@@ -172,8 +172,8 @@ pub fn key_text(alloc: Global, key: &MessageKey) -> Result<Vec<u8>, AllocError>
     ensures text { IfOk result (λ text. text.items ≡ key_text (message_of key.now)) }
     ensures ascii { IfOk result (λ text. IsAscii text.items) }
 {
-    match key {
-        MessageKey::Packet(packet) => packet_text(alloc, packet),
-        MessageKey::Word(word) => word_text(alloc, word),
+    match &key.content {
+        Content::Packet(packet) => packet_text(alloc, packet),
+        Content::Word(word) => word_text(alloc, word),
     }
 }

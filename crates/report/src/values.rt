@@ -4,7 +4,7 @@ ghost use Rattle.std.specs.Str.{IsAscii};
 ghost use Rattle.serde_json.specs.Data.{string};
 ghost use Rattle.serde_json.specs.View.{members_view, view};
 ghost use Rattle.report.specs.Report.{HasAsciiKey, dropped_data, drops_data, group_data, groups_data, nokey_data, passed_data, passes_none, report_data, reported, reported_drops, reported_key, texts};
-ghost use Rattle.report.specs.Inside.{all_members, put_alone, put_dropped, put_passed};
+ghost use Rattle.report.specs.Inside.{all_members, nokey_members, put_alone, put_dropped, put_interface, put_passed};
 
 use crate::{LabelDrops, NamedGroup, NoKeys, PassedSums, View};
 use problem_model::Name;
@@ -63,20 +63,48 @@ fn groups_value(alloc: Global, groups: &[NamedGroup]) -> Result<Value, AllocErro
     Ok(Value::from(values))
 }
 
+// The numbers of events without a key that every report has.
+fn nokey_members(alloc: Global, nokeys: &NoKeys) -> Result<Map<String, Value>, AllocError>
+    ensures { IfOk result (λ members. members_view members.entries ≡ nokey_members nokeys.now) }
+{
+    let mut members = Map::new(alloc);
+    put(
+        &mut members,
+        alloc,
+        "fragment",
+        Value::from(nokeys.fragment),
+    )?;
+    put(&mut members, alloc, "header", Value::from(nokeys.header))?;
+    put(&mut members, alloc, "length", Value::from(nokeys.length))?;
+    put(&mut members, alloc, "link", Value::from(nokeys.link))?;
+    put(&mut members, alloc, "local", Value::from(nokeys.local))?;
+    put(&mut members, alloc, "other", Value::from(nokeys.other))?;
+    put(&mut members, alloc, "short", Value::from(nokeys.short))?;
+    put(&mut members, alloc, "side", Value::from(nokeys.side))?;
+    Ok(members)
+}
+
+// Puts the number of packets of another interface, if there are any.
+fn put_interface(
+    alloc: Global,
+    count: u32,
+    members: &mut Map<String, Value>,
+) -> Result<(), AllocError>
+    ensures { OnOk result (members_view members.new.entries ≡ put_interface count (members_view members.old.entries)) }
+{
+    if count == 0 {
+        return Ok(());
+    }
+    put(members, alloc, "interface", Value::from(count))
+}
+
 // The numbers of events without a key.
 fn nokey_value(alloc: Global, nokeys: &NoKeys) -> Result<Value, AllocError>
     ensures { IfOk result (λ value. view value ≡ nokey_data nokeys.now) }
 {
-    json!(in alloc; {
-        "fragment": nokeys.fragment,
-        "header": nokeys.header,
-        "length": nokeys.length,
-        "link": nokeys.link,
-        "local": nokeys.local,
-        "other": nokeys.other,
-        "short": nokeys.short,
-        "side": nokeys.side,
-    })
+    let mut members = nokey_members(alloc, nokeys)?;
+    put_interface(alloc, nokeys.interface, &mut members)?;
+    Ok(Value::from(members))
 }
 
 // Whether no packet was passed over.

@@ -18,10 +18,12 @@ pub struct NoKeys {
     pub fragment: u32,
     /// Packets with a length that does not fit the others.
     pub length: u32,
-    /// Packets that come from the host of their trace and go there, or neither.
+    /// Packets that neither go outward at their label nor come inward.
     pub side: u32,
     /// Log rows of the kind `local`.
     pub local: u32,
+    /// Packets that were captured on another interface than that of their label.
+    pub interface: u32,
 }
 
 /// How many packets were passed over under all labels, by cause: the sums of `Passed` of `captures`.
