@@ -158,20 +158,20 @@ all_apart traces kept all = apart_still (merge_keys (packets_behind 0 traces)) (
 abbrev HasEventFrom : ℕ → List (List Seen) → Timed → Type 0
 HasEventFrom p seen t = (own : List Seen) × (k : ℕ) × (j : ℕ) × (t.key.place ≡ p + j) × (slice_get seen j ≡ Some own) × (t.key.n ≡ suc k) × (k < length own)
 
-event_under : (d : Declaration) (host clock p : ℕ) (more : List (List Seen)) (t : Trace) → AllByRecursion (HasEventFrom p (seen_of d host clock t ∷ more)) (packets_under p t)
-event_under d host clock p more (Captured bytes capture) =
-    let own = map (event_of_packet d host clock) capture.packets in
-    let long : length own ≡ length capture.packets = length-map capture.packets (event_of_packet d host clock) in
+event_under : (d : Declaration) (l : Label) (p : ℕ) (more : List (List Seen)) (t : Trace) → AllByRecursion (HasEventFrom p (seen_of d l t ∷ more)) (packets_under p t)
+event_under d l p more (Captured bytes capture) =
+    let own = map (event_of_packet d l) capture.packets in
+    let long : length own ≡ length capture.packets = length-map capture.packets (event_of_packet d l) in
     weaker (IsUnderFrom p 1 (length capture.packets)) (HasEventFrom p (own ∷ more)) (packets_from p 1 capture.packets)
     (λ x (i, same, number, few). (own, i, 0, (let e : x.key.place ≡ p + 0 = omega (arith, same) in e), refl, (let e : x.key.n ≡ suc i = omega (arith, number) in e), (let l : i < length own = omega (arith, few, long) in l)))
     (each_from p 1 capture.packets)
-event_under d host clock p more (Logged rows size) = tt
+event_under d l p more (Logged rows size) = tt
 
 events_behind : (d : Declaration) (labels : List Label) (ts : Traces) (p : ℕ) → length ts ≤ length labels → AllByRecursion (HasEventFrom p (seen_under d labels ts)) (packets_behind p ts)
 events_behind d labels [] p few = tt
 events_behind d [] (t ∷ ts) p few = absurd (omega (arith, few))
 events_behind d (l ∷ labels) (t ∷ ts) p few =
-    joined (HasEventFrom p (seen_under d (l ∷ labels) (t ∷ ts))) (packets_under p t) (packets_behind (p + 1) ts) (event_under d l.host l.clock p (seen_under d labels ts) t)
+    joined (HasEventFrom p (seen_under d (l ∷ labels) (t ∷ ts))) (packets_under p t) (packets_behind (p + 1) ts) (event_under d l p (seen_under d labels ts) t)
     (weaker (HasEventFrom (p + 1) (seen_under d labels ts)) (HasEventFrom p (seen_under d (l ∷ labels) (t ∷ ts))) (packets_behind (p + 1) ts)
     (λ x (own, k, j, place, at, number, inside). (own, k, suc j, (let e : x.key.place ≡ p + suc j = omega (arith, place) in e), at, number, inside))
     (events_behind d labels ts (p + 1) (omega (arith, few))))

@@ -74,8 +74,8 @@ start_lawful below d =
 pub record IsMore (d : Declaration) (label : Label) (old new : Trace) : Type 0 where
   pub kind : IsOfKind label.kind new
   pub bytes : IsOfBytes new
-  pub events : (more : List Seen) × (seen_of d label.host label.clock new ≡ seen_of d label.host label.clock old ++ more)
-  pub stamps : All IsStamped (seen_of d label.host label.clock new)
+  pub events : (more : List Seen) × (seen_of d label new ≡ seen_of d label old ++ more)
+  pub stamps : All IsStamped (seen_of d label new)
 
 module _ (d : Declaration) (s : State) (k : ℕ) (label : Label) (old new : Trace) (lawful : IsLawful d s) (at_label : slice_get d.labels k ≡ Some label) (at_old : slice_get s.traces k ≡ Some old) (is : IsMore d label old new) where
   then_kinds : (j : ℕ) (l : Label) (trace : Trace) → slice_get d.labels j ≡ Some l → slice_get (slice_set s.traces k new) j ≡ Some trace → IsOfKind l.kind trace
@@ -87,15 +87,15 @@ module _ (d : Declaration) (s : State) (k : ℕ) (label : Label) (old new : Trac
           subst (λ (t : Trace). IsOfKind l.kind t) (sym same) (subst (λ (x : Label). IsOfKind x.kind new) one is.kind)
       by (inr was) = lawful.state.kinds j l trace at was.1
 
-  then_seen : seen_by d (slice_set s.traces k new) ≡ slice_set (seen_by d s.traces) k (seen_of d label.host label.clock new)
+  then_seen : seen_by d (slice_set s.traces k new) ≡ slice_set (seen_by d s.traces) k (seen_of d label new)
   then_seen = seen_set d d.labels s.traces k label new at_label
 
   then_kept : AreKept (seen_by d (slice_set s.traces k new)) s.kept
   then_kept =
-      let had : slice_get (seen_by d s.traces) k ≡ Some (seen_of d label.host label.clock old) = seen_at d d.labels s.traces k label old at_label at_old in
-      let grown : AreKept (slice_set (seen_by d s.traces) k (seen_of d label.host label.clock old ++ is.events.0)) s.kept =
-      kept_grown (seen_by d s.traces) s.kept k (seen_of d label.host label.clock old) is.events.0 had lawful.state.kept in
-      let whole : slice_set (seen_by d s.traces) k (seen_of d label.host label.clock old ++ is.events.0) ≡ seen_by d (slice_set s.traces k new) =
+      let had : slice_get (seen_by d s.traces) k ≡ Some (seen_of d label old) = seen_at d d.labels s.traces k label old at_label at_old in
+      let grown : AreKept (slice_set (seen_by d s.traces) k (seen_of d label old ++ is.events.0)) s.kept =
+      kept_grown (seen_by d s.traces) s.kept k (seen_of d label old) is.events.0 had lawful.state.kept in
+      let whole : slice_set (seen_by d s.traces) k (seen_of d label old ++ is.events.0) ≡ seen_by d (slice_set s.traces k new) =
       ap (slice_set (seen_by d s.traces) k) (sym is.events.1) ∙ sym then_seen in
       subst (λ (seen : List (List Seen)). AreKept seen s.kept) whole grown
 
@@ -104,7 +104,7 @@ module _ (d : Declaration) (s : State) (k : ℕ) (label : Label) (old new : Trac
     labels = length-set s.traces k new ∙ lawful.state.labels;
     kinds = then_kinds;
     few = few;
-    stamps = subst (λ (seen : List (List Seen)). StampsFit seen) (sym then_seen) (All-set (All IsStamped) (seen_by d s.traces) k (seen_of d label.host label.clock new) is.stamps lawful.state.stamps);
+    stamps = subst (λ (seen : List (List Seen)). StampsFit seen) (sym then_seen) (All-set (All IsStamped) (seen_by d s.traces) k (seen_of d label new) is.stamps lawful.state.stamps);
     kept = then_kept;
   }
 
@@ -125,21 +125,21 @@ all_at P [] k x all at = absurd cc
 all_at P (y ∷ xs) zero x all at = subst P (some_same y x at) (All-head P y xs all)
 all_at P (y ∷ xs) (suc k) x all at = all_at P xs k x (All-tail P y xs all) at
 
-row_stamped : (d : Declaration) (clock : ℕ) (fields : List (List ℕ)) (row : Row) → IsRowRecord fields row → IsStamped (seen_row d clock row)
-row_stamped d clock fields row is = subst (λ (r : Row). r.stamp < 2 ^ 62) (sym is.is) is.stamp.below
+row_stamped : (d : Declaration) (label : Label) (fields : List (List ℕ)) (row : Row) → IsRowRecord fields row → IsStamped (seen_row d label row)
+row_stamped d label fields row is = subst (λ (r : Row). r.stamp < 2 ^ 62) (sym is.is) is.stamp.below
 
-rows_stamped : (d : Declaration) (clock : ℕ) (records : List (List (List ℕ))) (rows : List Row) → AreRows records rows → All IsStamped (map (seen_row d clock) rows)
-rows_stamped d clock [] [] are = All-nil IsStamped
-rows_stamped d clock [] (row ∷ rows) are = absurd are
-rows_stamped d clock (fields ∷ records) [] are = absurd are
-rows_stamped d clock (fields ∷ records) (row ∷ rows) are =
-    All-cons IsStamped (seen_row d clock row) (map (seen_row d clock) rows) (row_stamped d clock fields row are.0) (rows_stamped d clock records rows are.1)
+rows_stamped : (d : Declaration) (label : Label) (records : List (List (List ℕ))) (rows : List Row) → AreRows records rows → All IsStamped (map (seen_row d label) rows)
+rows_stamped d label [] [] are = All-nil IsStamped
+rows_stamped d label [] (row ∷ rows) are = absurd are
+rows_stamped d label (fields ∷ records) [] are = absurd are
+rows_stamped d label (fields ∷ records) (row ∷ rows) are =
+    All-cons IsStamped (seen_row d label row) (map (seen_row d label) rows) (row_stamped d label fields row are.0) (rows_stamped d label records rows are.1)
 
-log_more : (d : Declaration) (label : Label) (trace : Trace) (rows : List Row) (size : ℕ) → label.kind ≡ Log → IsOfKind label.kind trace → All IsStamped (seen_of d label.host label.clock trace) → All IsStamped (map (seen_row d label.clock) rows) →
+log_more : (d : Declaration) (label : Label) (trace : Trace) (rows : List Row) (size : ℕ) → label.kind ≡ Log → IsOfKind label.kind trace → All IsStamped (seen_of d label trace) → All IsStamped (map (seen_row d label) rows) →
     IsMore d label trace (with_rows trace rows size)
 log_more d label (Captured bytes capture) rows size log is stamps more = absurd (subst (λ (kind : TraceKind). IsOfKind kind (Captured bytes capture)) log is)
 log_more d label (Logged old n) rows size log is stamps more =
-    let seen : Row → Seen = seen_row d label.clock in
+    let seen : Row → Seen = seen_row d label in
     let joined : map seen (old ++ rows) ≡ map seen old ++ map seen rows = map-append seen old rows in
     record {
       kind = subst (λ (kind : TraceKind). IsOfKind kind (Logged (old ++ rows) (n + size))) (sym log) tt;
@@ -154,7 +154,7 @@ capture_more below d label (Logged rows size) piece capture kind is has more rea
 capture_more below d label (Captured bytes old) piece capture kind is has more reads =
     let was : Reads bytes old = subst (λ (kind : TraceKind). IsOfKind kind (Captured bytes old)) kind is in
     let all : AreBytes (bytes ++ piece) = All-append (λ b. b < 256) bytes piece has more in
-    let seen : captures.Seen → Seen = event_of_packet d label.host label.clock in
+    let seen : captures.Seen → Seen = event_of_packet d label in
     let added = below.stay bytes piece old capture was reads in
     record {
       kind = subst (λ (kind : TraceKind). IsOfKind kind (Captured (bytes ++ piece) capture)) (sym kind) reads;
@@ -176,9 +176,9 @@ module _ (below : Captures) (d : Declaration) (s : State) (lawful : IsLawful d s
   kind_lawful k label trace Capture bytes text after at at' kind are (inr (r, why, refused)) = same_lawful after refused.1
   kind_lawful k label trace Log bytes text after at at' kind are (inl (rows, are_rows, reply)) =
       let is : IsOfKind label.kind trace = lawful.state.kinds k label trace at at' in
-      let stamps : All IsStamped (seen_of d label.host label.clock trace) = all_at (All IsStamped) (seen_by d s.traces) k (seen_of d label.host label.clock trace) lawful.state.stamps (seen_at d d.labels s.traces k label trace at at') in
+      let stamps : All IsStamped (seen_of d label trace) = all_at (All IsStamped) (seen_by d s.traces) k (seen_of d label trace) lawful.state.stamps (seen_at d d.labels s.traces k label trace at at') in
       then_lawful d s k label trace (with_rows trace rows (length bytes)) lawful at at'
-      (log_more d label trace rows (length bytes) kind is stamps (rows_stamped d label.clock (records_of bytes) rows are_rows)) text after reply
+      (log_more d label trace rows (length bytes) kind is stamps (rows_stamped d label (records_of bytes) rows are_rows)) text after reply
   kind_lawful k label trace Log bytes text after at at' kind are (inr (r, why, refused)) = same_lawful after refused.1
 
   sized_lawful : (fits : Bool) (k : ℕ) (label : Label) (trace : Trace) (bytes text : List ℕ) (after : State) → slice_get d.labels k ≡ Some label → slice_get s.traces k ≡ Some trace → AreBytes bytes →

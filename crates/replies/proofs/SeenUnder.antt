@@ -10,28 +10,28 @@ use Rattle.traces.specs.Traces.{Trace, Traces, seen_of, seen_under, nothing_for,
 use Rattle.replies.proofs.Elements.{some_same}
 
 pub seen_at : (d : Declaration) (labels : List Label) (traces : Traces) (k : ℕ) (label : Label) (trace : Trace) → slice_get labels k ≡ Some label → slice_get traces k ≡ Some trace →
-    slice_get (seen_under d labels traces) k ≡ Some (seen_of d label.host label.clock trace)
+    slice_get (seen_under d labels traces) k ≡ Some (seen_of d label trace)
 seen_at d [] traces k label trace at at' = absurd cc
 seen_at d (l ∷ labels) [] k label trace at at' = absurd cc
 seen_at d (l ∷ labels) (t ∷ traces) zero label trace at at' =
-    ap (λ (x : Label). Some (seen_of d x.host x.clock t)) (some_same l label at) ∙ ap (λ (x : Trace). Some (seen_of d label.host label.clock x)) (some_same t trace at')
+    ap (λ (x : Label). Some (seen_of d x t)) (some_same l label at) ∙ ap (λ (x : Trace). Some (seen_of d label x)) (some_same t trace at')
 seen_at d (l ∷ labels) (t ∷ traces) (suc k) label trace at at' = seen_at d labels traces k label trace at at'
 
 pub seen_set : (d : Declaration) (labels : List Label) (traces : Traces) (k : ℕ) (label : Label) (new : Trace) → slice_get labels k ≡ Some label →
-    seen_under d labels (slice_set traces k new) ≡ slice_set (seen_under d labels traces) k (seen_of d label.host label.clock new)
+    seen_under d labels (slice_set traces k new) ≡ slice_set (seen_under d labels traces) k (seen_of d label new)
 seen_set d [] traces k label new at = absurd cc
 seen_set d (l ∷ labels) [] k label new at = refl
-seen_set d (l ∷ labels) (t ∷ traces) zero label new at = ap (λ (x : Label). seen_of d x.host x.clock new ∷ seen_under d labels traces) (some_same l label at)
-seen_set d (l ∷ labels) (t ∷ traces) (suc k) label new at = ap (λ (more : List (List Seen)). seen_of d l.host l.clock t ∷ more) (seen_set d labels traces k label new at)
+seen_set d (l ∷ labels) (t ∷ traces) zero label new at = ap (λ (x : Label). seen_of d x new ∷ seen_under d labels traces) (some_same l label at)
+seen_set d (l ∷ labels) (t ∷ traces) (suc k) label new at = ap (λ (more : List (List Seen)). seen_of d l t ∷ more) (seen_set d labels traces k label new at)
 
 -- ---- nothing was added
-no_events : (d : Declaration) (host clock : ℕ) (kind : TraceKind) → seen_of d host clock (nothing_for kind) ≡ []
-no_events d host clock Capture = refl
-no_events d host clock Log = refl
+no_events : (d : Declaration) (label : Label) (kind : TraceKind) → seen_of d label (nothing_for kind) ≡ []
+no_events d label Capture = refl
+no_events d label Log = refl
 
 pub events_start : (d : Declaration) (labels : List Label) → seen_under d labels (map (λ (l : Label). nothing_for l.kind) labels) ≡ replicate (length labels) []
 events_start d [] = refl
-events_start d (label ∷ labels) = rw (no_events d label.host label.clock label.kind, events_start d labels) refl
+events_start d (label ∷ labels) = rw (no_events d label label.kind, events_start d labels) refl
 
 -- by what is true of a capture of which nothing came yet
 module _ (nothing_reads : Reads [] nothing) where

@@ -50,12 +50,12 @@ added events messages withdrawn aside consistent = record { events = events; mes
 
 -- ---- a trace that grew
 module _ (held : Held) (d : Declaration) (s : State) (k : ℕ) (label : Label) (old new : Trace) (events : List Seen) (size : ℕ) (stream : Stream) (stands : StandsFor held d s) (at_label : slice_get d.labels k ≡ Some label)
-    (at_old : slice_get s.traces k ≡ Some old) (g : IsGrownTrace d label.host label.clock label.kind old new events size stream) where
-  events_are : (u : Under) → slice_get held.under k ≡ Some u → u.events ≡ seen_of d label.host label.clock old
+    (at_old : slice_get s.traces k ≡ Some old) (g : IsGrownTrace d label label.kind old new events size stream) where
+  events_are : (u : Under) → slice_get held.under k ≡ Some u → u.events ≡ seen_of d label old
   events_are u was =
       let had : slice_get (seen_held held.under) k ≡ Some u.events = slice_get-map (λ (x : Under). x.events) held.under k ∙ ap (option_map (λ (x : Under). x.events)) was in
-      let also : slice_get (seen_held held.under) k ≡ Some (seen_of d label.host label.clock old) = ap (λ (x : List (List Seen)). slice_get x k) stands.events ∙ seen_at d d.labels s.traces k label old at_label at_old in
-      some_same u.events (seen_of d label.host label.clock old) (sym had ∙ also)
+      let also : slice_get (seen_held held.under) k ≡ Some (seen_of d label old) = ap (λ (x : List (List Seen)). slice_get x k) stands.events ∙ seen_at d d.labels s.traces k label old at_label at_old in
+      some_same u.events (seen_of d label old) (sym had ∙ also)
 
   size_is : (u : Under) → slice_get held.under k ≡ Some u → u.size ≡ bytes_accepted old
   size_is u was =

@@ -80,7 +80,7 @@ module _ (d : Declaration) (s s' : State) (k : ℕ) (text : List ℕ) (says : Is
       by_room true (is, added) = record { place = k; before = old; after = new; was = at; is = ap (λ (x : State). x.traces) is; more = more }
       by_room false (refused, same) = never_both text TooManyEvents refused says
 
-  module _ (one : (bytes : List ℕ) (a b : captures.Capture) → Reads bytes a → Reads bytes b → a ≡ b) (host clock before : ℕ) (piece : List ℕ) (packets : List captures.Seen) where
+  module _ (one : (bytes : List ℕ) (a b : captures.Capture) → Reads bytes a → Reads bytes b → a ≡ b) (own : Label) (before : ℕ) (piece : List ℕ) (packets : List captures.Seen) where
     -- the packets behind those before
     behind : (capture then : captures.Capture) (added : List captures.Seen) → length capture.packets ≡ before → then.packets ≡ capture.packets ++ added → packets ≡ added →
         packets_from k 1 then.packets ≡ packets_from k 1 capture.packets ++ packets_from k (before + 1) packets
@@ -90,7 +90,7 @@ module _ (d : Declaration) (s s' : State) (k : ℕ) (text : List ℕ) (says : Is
         ∙ ap (λ (n : ℕ). packets_from k 1 capture.packets ++ packets_from k n added) next
         ∙ ap (λ (ps : List captures.Seen). packets_from k 1 capture.packets ++ packets_from k (before + 1) ps) (sym is)
 
-    pub kind_brings : (kept : Stream) (trace : Trace) (kind : TraceKind) → IsStreamOf kept trace → IsOfKind kind trace → length (seen_of d host clock trace) ≡ before → Completes kept piece packets →
+    pub kind_brings : (kept : Stream) (trace : Trace) (kind : TraceKind) → IsStreamOf kept trace → IsOfKind kind trace → length (seen_of d own trace) ≡ before → Completes kept piece packets →
         KindReply d s k trace kind piece text s' → slice_get s.traces k ≡ Some trace → BringsPackets s.traces s'.traces (packets_from k (before + 1) packets)
     kind_brings streams.Log (Captured bytes capture) kind stream of_kind count completes reply at = absurd stream
     kind_brings streams.Log (Logged rows size) Capture stream of_kind count completes reply at = absurd of_kind
@@ -102,12 +102,12 @@ module _ (d : Declaration) (s s' : State) (k : ℕ) (text : List ℕ) (says : Is
     kind_brings (streams.Capture tail) (Captured bytes capture) Capture stream of_kind count (fed, completes) (inl (then, reads, reply)) at =
         let grows = completes bytes capture stream in
         let same : then ≡ grows.then = one (bytes ++ piece) then grows.then reads (stands_reads fed (bytes ++ piece) grows.then grows.stands) in
-        let many : length capture.packets ≡ before = sym (length-map capture.packets (event_of_packet d host clock)) ∙ count in
+        let many : length capture.packets ≡ before = sym (length-map capture.packets (event_of_packet d own)) ∙ count in
         accept_brings (Captured bytes capture) (Captured (bytes ++ piece) then) (packets_from k (before + 1) packets) reply at
         (behind capture then grows.added many (ap (λ (c : captures.Capture). c.packets) same ∙ grows.more) grows.grown)
     kind_brings (streams.Capture tail) (Captured bytes capture) Capture stream of_kind count completes (inr (r, why, refused)) at = never_both text r refused.0 says
 
-    pub label_brings : (kept : Stream) (trace : Trace) (label : Label) → IsStreamOf kept trace → IsOfKind label.kind trace → length (seen_of d host clock trace) ≡ before → Completes kept piece packets →
+    pub label_brings : (kept : Stream) (trace : Trace) (label : Label) → IsStreamOf kept trace → IsOfKind label.kind trace → length (seen_of d own trace) ≡ before → Completes kept piece packets →
         PieceReply d s k (Some label) (Some trace) piece text s' → slice_get s.traces k ≡ Some trace → BringsPackets s.traces s'.traces (packets_from k (before + 1) packets)
     label_brings kept trace label stream of_kind count completes reply at = by_size (fits_label trace piece) reply
       where
@@ -124,9 +124,9 @@ piece_brings one held d s s' k before u piece text packets stands inside at coun
     let trace = there_some s.traces k (let e = stands.labels in omega (arith, inside, e)) in
     let here = subst (λ (o : Option Label). PieceReply d s k o (Some trace.0) piece text s') label.1 (subst (λ (o : Option Trace). PieceReply d s k (slice_get d.labels k) o piece text s') trace.1 reply) in
     let own : slice_get (seen_held held.under) k ≡ Some u.events = slice_get-map (λ (x : Under). x.events) held.under k ∙ ap (option_map (λ (x : Under). x.events)) at in
-    let theirs : slice_get (seen_held held.under) k ≡ Some (seen_of d label.0.host label.0.clock trace.0) = ap (λ (x : List (List Seen)). slice_get x k) stands.events ∙ seen_at d d.labels s.traces k label.0 trace.0 label.1 trace.1 in
-    let many : length (seen_of d label.0.host label.0.clock trace.0) ≡ before = ap length (some_same (seen_of d label.0.host label.0.clock trace.0) u.events (sym theirs ∙ own)) ∙ count in
-    label_brings d s s' k text says one label.0.host label.0.clock before piece packets u.stream trace.0 label.0 (stands.streams k u trace.0 at trace.1) (stands.kinds k label.0 trace.0 label.1 trace.1) many completes here trace.1
+    let theirs : slice_get (seen_held held.under) k ≡ Some (seen_of d label.0 trace.0) = ap (λ (x : List (List Seen)). slice_get x k) stands.events ∙ seen_at d d.labels s.traces k label.0 trace.0 label.1 trace.1 in
+    let many : length (seen_of d label.0 trace.0) ≡ before = ap length (some_same (seen_of d label.0 trace.0) u.events (sym theirs ∙ own)) ∙ count in
+    label_brings d s s' k text says one label.0 before piece packets u.stream trace.0 label.0 (stands.streams k u trace.0 at trace.1) (stands.kinds k label.0 trace.0 label.1 trace.1) many completes here trace.1
 
 pub found_brings : (one : (bytes : List ℕ) (a b : captures.Capture) → Reads bytes a → Reads bytes b → a ≡ b) (held : Held) (d : Declaration) (s s' : State) (k before : ℕ) (u : Under) (found : Found) (text : List ℕ)
     (packets : List captures.Seen) → StandsFor held d s → k < length held.declaration.labels → slice_get held.under k ≡ Some u → length u.events ≡ before → CompletesFound held k packets found → IsAddedLine text →

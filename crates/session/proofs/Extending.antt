@@ -15,6 +15,7 @@ use Rattle.traces.specs.declared.event_id.EventId.{EventId}
 use Rattle.solver.specs.Solver.{SolverLists}
 use Rattle.traces.specs.declared.accepted.Stream.{Stream}
 use Rattle.traces.specs.declared.accepted.Stream.TheVariants as streams
+use Rattle.decl.specs.declared.items.Label.{Label}
 use Rattle.decl.specs.Declaration.{Declaration}
 use Rattle.replies.specs.Reply.{most_of_label}
 use Rattle.session.specs.Stands.{Under, Held, IsLawfulUnder, IsReadWithin, held_parts, under_of}
@@ -101,20 +102,20 @@ pub stream_fits : (held : Held) (k n : ℕ) (u : Under) → IsWithinLimits held 
 stream_fits held k n u is at_k place = place_fits u.stream u.size n (fits_at held.under k u is.fit at_k).1 (place u at_k)
 
 -- and what is then kept is of no more than the label then has
-says_within : (d : Declaration) (host clock : ℕ) (old next : Stream) (piece : List ℕ) (events : List Seen) (size : ℕ) → IsReadWithin old size → SaysEvents d host clock old piece events next →
+says_within : (d : Declaration) (label : Label) (old next : Stream) (piece : List ℕ) (events : List Seen) (size : ℕ) → IsReadWithin old size → SaysEvents d label old piece events next →
     IsReadWithin next (size + length piece)
-says_within d host clock streams.Log next piece events size within says = subst (λ (x : Stream). IsReadWithin x (size + length piece)) (sym says.kept) tt
-says_within d host clock (streams.Capture tail) next piece events size within says =
+says_within d label streams.Log next piece events size within says = subst (λ (x : Stream). IsReadWithin x (size + length piece)) (sym says.kept) tt
+says_within d label (streams.Capture tail) next piece events size within says =
     let came : taken says.fed ≡ taken tail + length piece = says.size in
     let read : taken tail ≤ size = within in
     let fits : taken says.fed ≤ size + length piece = omega (arith, read, came) in
     subst (λ (x : Stream). IsReadWithin x (size + length piece)) (sym says.kept) fits
 
-pub stream_within : (held : Held) (d : Declaration) (host clock k : ℕ) (u : Under) (next : Stream) (piece : List ℕ) (events : List Seen) → IsWithinLimits held → slice_get held.under k ≡ Some u →
-    SaysEvents d host clock u.stream piece events next → IsStreamWithin held.under k (length piece) next
-stream_within held d host clock k u next piece events is at_k says v at_v =
+pub stream_within : (held : Held) (d : Declaration) (label : Label) (k : ℕ) (u : Under) (next : Stream) (piece : List ℕ) (events : List Seen) → IsWithinLimits held → slice_get held.under k ≡ Some u →
+    SaysEvents d label u.stream piece events next → IsStreamWithin held.under k (length piece) next
+stream_within held d label k u next piece events is at_k says v at_v =
     subst (λ (x : Under). IsReadWithin next (x.size + length piece)) (some_same u v (sym at_k ∙ at_v))
-    (says_within d host clock u.stream next piece events u.size (fits_at held.under k u is.fit at_k).1 says)
+    (says_within d label u.stream next piece events u.size (fits_at held.under k u is.fit at_k).1 says)
 
 -- a label has no more events than all have
 pub label_few : (accepted : List Accepted) (k more most : ℕ) (a : Accepted) → slice_get accepted k ≡ Some a → event_count (seen_in accepted) + more ≤ most → length a.events.items + more ≤ most

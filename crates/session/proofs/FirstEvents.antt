@@ -143,7 +143,7 @@ module _ (r : RosterLists) (is : IsRoster r) where
   module _ (seen : List (List Seen)) (holds : HoldsEvents r seen) where
     -- a packet of an event, whatever is in it
     abbrev packet_of : EventId → Timed
-    packet_of id = record { key = record { value = pos 0; place = id.label; n = id.number }; packet = let q : packets.Seen = record { stamp = 0; link = 0; original_length = 0; bytes = [] } in q }
+    packet_of id = record { key = record { value = pos 0; place = id.label; n = id.number }; packet = let q : packets.Seen = record { stamp = 0; link = 0; interface = None; original_length = 0; bytes = [] } in q }
 
     has_event : (j : ℕ) (other : Placed) → slice_get (events_of seen) j ≡ Some other → HasEventOf seen (packet_of other.id)
     has_event j other there =

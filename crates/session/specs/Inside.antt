@@ -95,10 +95,10 @@ abbrev pub KindAnswered : TraceKind → Held → Held → ℕ → (Declaration �
 KindAnswered kind held held' k IsReply IsWritten = (d : Declaration) (s : State) (trace : Trace) → StandsFor held d s → slice_get s.traces k ≡ Some trace
     → IsOfKind kind trace → Answered held' d (IsReply d s trace) IsWritten
 
--- a trace of a label of this host and this clock grew by these events, which came in so many bytes, and this is kept of it
-pub record IsGrownTrace (d : Declaration) (host clock : ℕ) (kind : TraceKind) (old new : Trace) (more : List Seen) (came : ℕ) (next : Stream) : Type 0 where
+-- the trace of a label, of this kind, grew by these events, which came in so many bytes, and this is kept of it
+pub record IsGrownTrace (d : Declaration) (label : Label) (kind : TraceKind) (old new : Trace) (more : List Seen) (came : ℕ) (next : Stream) : Type 0 where
   pub of_kind : IsOfKind kind new
-  pub events : seen_of d host clock new ≡ seen_of d host clock old ++ more
+  pub events : seen_of d label new ≡ seen_of d label old ++ more
   pub size : bytes_accepted new ≡ bytes_accepted old + came
   pub aside : aside_in next ≡ aside_of new
   pub stream : IsStreamOf next new
@@ -106,7 +106,7 @@ pub record IsGrownTrace (d : Declaration) (host clock : ℕ) (kind : TraceKind) 
 -- these events were accepted, or refused for their number: the answer is a reply for every trace that they make of the one before
 abbrev pub AcceptAnswered : Held → Held → ℕ → List Seen → ℕ → Stream → (List ℕ → Type 0) → Type 0
 AcceptAnswered held held' k events size stream IsWritten = (d : Declaration) (s : State) (label : Label) (old new : Trace) → StandsFor held d s
-    → slice_get d.labels k ≡ Some label → slice_get s.traces k ≡ Some old → IsGrownTrace d label.host label.clock label.kind old new events size stream
+    → slice_get d.labels k ≡ Some label → slice_get s.traces k ≡ Some old → IsGrownTrace d label label.kind old new events size stream
     → Answered held' d (AcceptReply d s k new) IsWritten
 
 -- the same of a command or of a line that spells none, with what its read came to

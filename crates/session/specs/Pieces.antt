@@ -6,6 +6,7 @@ use Rattle.captures.specs.Capture as captures
 use Rattle.captures.specs.Feeding as feeding
 use Rattle.captures.specs.Feeding.{Tail, Grows, taken}
 use Rattle.decl.specs.Declaration.{Declaration}
+use Rattle.decl.specs.declared.items.Label.{Label}
 use Rattle.traces.specs.Seen.{Seen, seen_row, seen_events, event_of_packet}
 use Rattle.traces.specs.declared.accepted.Stream.{Stream}
 use Rattle.traces.specs.declared.accepted.Stream.TheVariants as streams
@@ -23,26 +24,26 @@ HasPlaceFor (streams.Capture tail) n = taken tail + n ≤ most_of_label
 abbrev pub IsFed : Tail → List ℕ → Tail → List captures.Seen → Type 0
 IsFed tail piece next packets = (s : List ℕ) (c : captures.Capture) → feeding.StandsFor tail s c → Grows next (s ++ piece) c [] packets
 
--- the rows of the piece as events of this clock, and nothing is kept
-pub record AreOfRows (d : Declaration) (clock : ℕ) (piece : List ℕ) (events : List Seen) (next : Stream) : Type 0 where
+-- the rows of the piece as events of this label, and nothing is kept
+pub record AreOfRows (d : Declaration) (l : Label) (piece : List ℕ) (events : List Seen) (next : Stream) : Type 0 where
   pub rows : List Row
   pub are : AreRows (records_of piece) rows
-  pub seen : events ≡ map (seen_row d clock) rows
+  pub seen : events ≡ map (seen_row d l) rows
   pub kept : next ≡ streams.Log
 
--- the packets that the piece completes as events at this host and of this clock, and what is then kept
-pub record AreOfPackets (d : Declaration) (host clock : ℕ) (tail : Tail) (piece : List ℕ) (events : List Seen) (next : Stream) : Type 0 where
+-- the packets that the piece completes as events of this label, and what is then kept
+pub record AreOfPackets (d : Declaration) (l : Label) (tail : Tail) (piece : List ℕ) (events : List Seen) (next : Stream) : Type 0 where
   pub fed : Tail
   pub packets : List captures.Seen
   pub completes : IsFed tail piece fed packets
-  pub seen : events ≡ map (event_of_packet d host clock) packets
+  pub seen : events ≡ map (event_of_packet d l) packets
   pub size : taken fed ≡ taken tail + length piece
   pub kept : next ≡ streams.Capture fed
 
 -- the piece says these events, and this is then kept
-abbrev pub SaysEvents : Declaration → (host clock : ℕ) → Stream → List ℕ → List Seen → Stream → Type 0
-SaysEvents d host clock streams.Log piece events next = AreOfRows d clock piece events next
-SaysEvents d host clock (streams.Capture tail) piece events next = AreOfPackets d host clock tail piece events next
+abbrev pub SaysEvents : Declaration → Label → Stream → List ℕ → List Seen → Stream → Type 0
+SaysEvents d l streams.Log piece events next = AreOfRows d l piece events next
+SaysEvents d l (streams.Capture tail) piece events next = AreOfPackets d l tail piece events next
 
 -- the piece is refused so, whatever was kept stood for
 abbrev pub IsRefusedAs : Stream → List ℕ → Refusal → Type 0
@@ -50,10 +51,10 @@ IsRefusedAs streams.Log piece r = IsLogRefusal piece r
 IsRefusedAs (streams.Capture tail) piece r = (s : List ℕ) (c : captures.Capture) → feeding.StandsFor tail s c → IsCaptureRefusal (s ++ piece) r
 
 -- what the code reads of a piece where there is room for so many events more
-abbrev pub IsRead : Declaration → (host clock room : ℕ) → Stream → List ℕ → Piece → Type 0
-IsRead d host clock room kept piece (pieces.Read events next) = SaysEvents d host clock kept piece (seen_events events.items) next
-IsRead d host clock room kept piece pieces.TooManyEvents = (events : List Seen) × (next : Stream) × SaysEvents d host clock kept piece events next × (room < length events)
-IsRead d host clock room kept piece (pieces.Refused r) = IsRefusedAs kept piece r
+abbrev pub IsRead : Declaration → Label → (room : ℕ) → Stream → List ℕ → Piece → Type 0
+IsRead d l room kept piece (pieces.Read events next) = SaysEvents d l kept piece (seen_events events.items) next
+IsRead d l room kept piece pieces.TooManyEvents = (events : List Seen) × (next : Stream) × SaysEvents d l kept piece events next × (room < length events)
+IsRead d l room kept piece (pieces.Refused r) = IsRefusedAs kept piece r
 
 -- there is room for the events that were read
 abbrev pub HasRoomFor : ℕ → Piece → Type 0

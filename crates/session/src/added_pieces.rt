@@ -128,11 +128,7 @@ impl Session {
         }
         let decl = decl_of(&self.answers);
         let label = label_at(&decl.labels, k);
-        let origin = Origin {
-            decl,
-            host: label.host,
-            clock: label.clock,
-        };
+        let origin = Origin { decl, label };
         let read = read_piece(
             self.alloc,
             &origin,

@@ -8,21 +8,19 @@ ghost use Rattle.session.specs.Pieces.{IsRead, HasPlaceFor, HasRoomFor};
 ghost use Rattle.session.specs.TakingInside.{HasPackets};
 
 use captures::{CaptureStream, FirstPackets, Packet};
-use decl::Decl;
+use decl::{Decl, Label};
 use event_log::read_first_rows;
 use replies::{Refusal, capture_refusal, log_refusal};
 use std::alloc::{AllocError, Global};
 use traces::{Event, Stream, packet_events, row_events};
 
-/// Where events come from: a host and one of its clocks, and the declaration that they are in.
+/// Where events come from: a label, and the declaration that it is in.
 #[derive(Clone, Copy)]
 pub(crate) struct Origin<'a> {
     /// The declaration.
     pub(crate) decl: &'a Decl,
-    /// The place of the host.
-    pub(crate) host: u32,
-    /// The place of the clock that stamps are taken from.
-    pub(crate) clock: u32,
+    /// The label.
+    pub(crate) label: &'a Label,
 }
 
 /// What a piece says.
@@ -56,7 +54,7 @@ pub(crate) fn read_piece(
     requires short { length piece.now ≤ most_piece }
     requires place { HasPlaceFor stream.now (length piece.now) }
     requires none { packets.old.items ≡ [] }
-    ensures read { IfOk result (λ read. IsRead (declaration_of origin.now.decl.now) origin.now.host origin.now.clock room stream.now piece.now read) }
+    ensures read { IfOk result (λ read. IsRead (declaration_of origin.now.decl.now) origin.now.label.now room stream.now piece.now read) }
     ensures room { IfOk result (λ read. HasRoomFor room read) }
     ensures packets { IfOk result (λ read. HasPackets stream.now piece.now (seen_packets packets.new.items) read) }
 {
@@ -70,7 +68,7 @@ pub(crate) fn read_piece(
 fn read_log(alloc: Global, origin: &Origin, piece: &[u8], room: u64) -> Result<Piece, AllocError>
     requires declared { IsDeclaration (declaration_of origin.now.decl.now) }
     requires short { length piece.now ≤ most_piece }
-    ensures read { IfOk result (λ read. IsRead (declaration_of origin.now.decl.now) origin.now.host origin.now.clock room streams.Log piece.now read) }
+    ensures read { IfOk result (λ read. IsRead (declaration_of origin.now.decl.now) origin.now.label.now room streams.Log piece.now read) }
     ensures room { IfOk result (λ read. HasRoomFor room read) }
 {
     match read_first_rows(alloc, piece, room) {
@@ -78,7 +76,7 @@ fn read_log(alloc: Global, origin: &Origin, piece: &[u8], room: u64) -> Result<P
             if rows.count > room {
                 return Ok(Piece::TooManyEvents);
             }
-            let events = row_events(alloc, origin.decl, origin.clock, rows.kept)?;
+            let events = row_events(alloc, origin.decl, origin.label, rows.kept)?;
             let stream = Stream::Log;
             Ok(Piece::Read { events, stream })
         }
@@ -100,7 +98,7 @@ fn read_capture(
 ) -> Result<Piece, AllocError>
     requires declared { IsDeclaration (declaration_of origin.now.decl.now) }
     requires place { taken stream.now + length piece.now ≤ most_of_label }
-    ensures read { IfOk result (λ read. IsRead (declaration_of origin.now.decl.now) origin.now.host origin.now.clock room (streams.Capture stream.now) piece.now read) }
+    ensures read { IfOk result (λ read. IsRead (declaration_of origin.now.decl.now) origin.now.label.now room (streams.Capture stream.now) piece.now read) }
     ensures room { IfOk result (λ read. HasRoomFor room read) }
     ensures packets { IfOk result (λ read. HasPackets (streams.Capture stream.now) piece.now (seen_packets packets.new.items) read) }
 {
@@ -110,13 +108,7 @@ fn read_capture(
             if completed.more {
                 return Ok(Piece::TooManyEvents);
             }
-            let events = packet_events(
-                alloc,
-                origin.decl,
-                origin.host,
-                origin.clock,
-                &completed.kept,
-            )?;
+            let events = packet_events(alloc, origin.decl, origin.label, &completed.kept)?;
             *packets = completed.kept;
             let stream = Stream::Capture(next);
             Ok(Piece::Read { events, stream })

@@ -15,7 +15,7 @@ pub returns-then-completed-clause-read : goal.returns-then-completed-clause-read
 returns-then-completed-clause-read c =
     let adds = c.in-Ok.ensures.ok in
     let keeps = adds.keeps [] c.new-completed.ensures.none in
-    let at_host = event_of_packet (declaration_of c.args.origin.now.decl.now) c.args.origin.now.host c.args.origin.now.clock in
+    let at_host = event_of_packet (declaration_of c.args.origin.now.decl.now) c.args.origin.now.label.now in
     let many = keeps.more.0 c.if-completed.true in (
       map at_host adds.added,
       streams.Capture c.in-Ok.next,
@@ -27,7 +27,7 @@ pub returns-in-Ok-clause-read : goal.returns-in-Ok-clause-read
 returns-in-Ok-clause-read c =
     let adds = c.in-Ok.ensures.ok in
     let keeps = adds.keeps [] c.new-completed.ensures.none in
-    let at_host = event_of_packet (declaration_of c.args.origin.now.decl.now) c.args.origin.now.host c.args.origin.now.clock in
+    let at_host = event_of_packet (declaration_of c.args.origin.now.decl.now) c.args.origin.now.label.now in
     let kept : seen_packets c.feed_first.new.out.kept.items ≡ adds.added = all_kept c.feed_first.new.out adds.added keeps c.if-completed.false in
     let seen : seen_events c.in_ok-events-in-Ok.events.items ≡ map at_host (seen_packets c.feed_first.new.out.kept.items) = rw (← c.deref.ensures.value) c.in_ok-events-in-Ok.ensures in
     record { fed = c.in-Ok.next; packets = adds.added; completes = adds.are; seen = seen ∙ ap (map at_host) kept; size = c.in-Ok.ensures.size; kept = refl }
@@ -36,7 +36,7 @@ pub returns-in-Ok-clause-room : goal.returns-in-Ok-clause-room
 returns-in-Ok-clause-room c =
     let adds = c.in-Ok.ensures.ok in
     let keeps = adds.keeps [] c.new-completed.ensures.none in
-    let at_host = event_of_packet (declaration_of c.args.origin.now.decl.now) c.args.origin.now.host c.args.origin.now.clock in
+    let at_host = event_of_packet (declaration_of c.args.origin.now.decl.now) c.args.origin.now.label.now in
     let kept : seen_packets c.feed_first.new.out.kept.items ≡ adds.added = all_kept c.feed_first.new.out adds.added keeps c.if-completed.false in
     let few = all_few c.feed_first.new.out adds.added keeps c.if-completed.false in
     let seen : seen_events c.in_ok-events-in-Ok.events.items ≡ map at_host (seen_packets c.feed_first.new.out.kept.items) = rw (← c.deref.ensures.value) c.in_ok-events-in-Ok.ensures in
@@ -48,7 +48,7 @@ pub returns-in-Ok-clause-packets : goal.returns-in-Ok-clause-packets
 returns-in-Ok-clause-packets c =
     let adds = c.in-Ok.ensures.ok in
     let keeps = adds.keeps [] c.new-completed.ensures.none in
-    let at_host = event_of_packet (declaration_of c.args.origin.now.decl.now) c.args.origin.now.host c.args.origin.now.clock in
+    let at_host = event_of_packet (declaration_of c.args.origin.now.decl.now) c.args.origin.now.label.now in
     let kept : seen_packets c.feed_first.new.out.kept.items ≡ adds.added = all_kept c.feed_first.new.out adds.added keeps c.if-completed.false in
     let fed = subst (λ (packets : List captures.Seen). IsFed c.args.stream.now c.args.piece.now c.in-Ok.next packets) (sym kept) adds.are in
     let seen : seen_events c.in_ok-events-in-Ok.events.items ≡ map at_host (seen_packets c.feed_first.new.out.kept.items) = rw (← c.deref.ensures.value) c.in_ok-events-in-Ok.ensures in

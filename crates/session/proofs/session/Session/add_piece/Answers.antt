@@ -71,9 +71,9 @@ pub accept-requires-clause-within : goal.accept-requires-clause-within
 accept-requires-clause-within g c =
     let held = subst IsWithinLimits c.self.view_is (limits c.self.invariant.0) in
     let at_under = under_at (declared c.self.inside.answers) c.self.inside.accepted.items _ _ c.args.self.now c.args.k c.index-under.result.now c.self.view_is (inside_under c.args.self.now c.args.k held c.requires.inside) c.index-under.ensures in
-    let says : SaysEvents (declaration_of c.decl_of-decl.result.now) c.label_at-label.result.now.host c.label_at-label.result.now.clock c.index-under.result.now.stream c.args.front.now (seen_events c.in-Read.events.items) c.in-Read.stream =
+    let says : SaysEvents (declaration_of c.decl_of-decl.result.now) c.label_at-label.result.now c.index-under.result.now.stream c.args.front.now (seen_events c.in-Read.events.items) c.in-Read.stream =
     rw c.in-Read.is at c.in_ok-read.ensures.read in
-    stream_within c.args.self.now (declaration_of c.decl_of-decl.result.now) c.label_at-label.result.now.host c.label_at-label.result.now.clock c.args.k (under_of c.index-under.result.now) c.in-Read.stream c.args.front.now (seen_events c.in-Read.events.items)
+    stream_within c.args.self.now (declaration_of c.decl_of-decl.result.now) c.label_at-label.result.now c.args.k (under_of c.index-under.result.now) c.in-Read.stream c.args.front.now (seen_events c.in-Read.events.items)
     held at_under says
 
 pub returns-in-Read-clause-answers : goal.returns-in-Read-clause-answers
@@ -82,12 +82,12 @@ returns-in-Read-clause-answers g c =
     let place : c.has_place.result ≡ true = search rules in
     let held = subst IsWithinLimits c.self.view_is (limits c.self.invariant.0) in
     let at_under = under_at (declared c.self.inside.answers) c.self.inside.accepted.items _ _ c.args.self.now c.args.k c.index-under.result.now c.self.view_is (inside_under c.args.self.now c.args.k held c.requires.inside) c.index-under.ensures in
-    let says : SaysEvents (declaration_of c.decl_of-decl.result.now) c.label_at-label.result.now.host c.label_at-label.result.now.clock c.index-under.result.now.stream c.args.front.now (seen_events c.in-Read.events.items) c.in-Read.stream =
+    let says : SaysEvents (declaration_of c.decl_of-decl.result.now) c.label_at-label.result.now c.index-under.result.now.stream c.args.front.now (seen_events c.in-Read.events.items) c.in-Read.stream =
     rw c.in-Read.is at c.in_ok-read.ensures.read in
     let label : slice_get c.decl_of-decl.result.now.labels.items c.args.k ≡ Some c.label_at-label.result.now = rw (← c.deref.ensures.value) c.label_at-label.ensures in
     let declares = c.decl_of-decl.ensures.same ∙ ap (λ (h : Held). h.declaration) c.self.view_is in
     let at_label = subst (λ (d : Declaration). slice_get d.labels c.args.k ≡ Some c.label_at-label.result.now) declares label in
-    let by_held = subst (λ (d : Declaration). SaysEvents d c.label_at-label.result.now.host c.label_at-label.result.now.clock c.index-under.result.now.stream c.args.front.now (seen_events c.in-Read.events.items) c.in-Read.stream) declares says in
+    let by_held = subst (λ (d : Declaration). SaysEvents d c.label_at-label.result.now c.index-under.result.now.stream c.args.front.now (seen_events c.in-Read.events.items) c.in-Read.stream) declares says in
     IfOk-weaker c.accept.result _ (λ outcome. FrontAnswered c.args.more c.args.front.now c.args.self.now c.accept.new.self c.args.k (IsOutcomeLine outcome))
     (λ outcome answered. piece_read c.args.self.now c.accept.new.self c.args.k (under_of c.index-under.result.now) c.args.more c.args.front.now (IsOutcomeLine outcome) more at_under (sym c.has_place.ensures ∙ place)
     (says_answered c.args.self.now c.accept.new.self c.args.k c.label_at-label.result.now c.args.front.now (under_of c.index-under.result.now) (seen_events c.in-Read.events.items) c.in-Read.stream (IsOutcomeLine outcome)
@@ -107,12 +107,12 @@ returns-in-TooManyEvents-clause-answers g c =
     let held = subst IsWithinLimits c.self.view_is (limits c.self.invariant.0) in
     let at_under = under_at (declared c.self.inside.answers) c.self.inside.accepted.items _ _ c.args.self.now c.args.k c.index-under.result.now c.self.view_is (inside_under c.args.self.now c.args.k held c.requires.inside) c.index-under.ensures in
     let counted = count_is c.self.inside.accepted.items c.self.inside.kept.items c.self.inside.ready c.self.inside.answers c.args.self.now c.self.view_is c.requires.ready c.self.invariant.2 c.len-count.result c.len-count.ensures.count in
-    let read : IsRead (declaration_of c.decl_of-decl.result.now) c.label_at-label.result.now.host c.label_at-label.result.now.clock c.room_left-room.result c.index-under.result.now.stream c.args.front.now pieces.TooManyEvents =
+    let read : IsRead (declaration_of c.decl_of-decl.result.now) c.label_at-label.result.now c.room_left-room.result c.index-under.result.now.stream c.args.front.now pieces.TooManyEvents =
     rw c.in-TooManyEvents.is at c.in_ok-read.ensures.read in
     let label : slice_get c.decl_of-decl.result.now.labels.items c.args.k ≡ Some c.label_at-label.result.now = rw (← c.deref.ensures.value) c.label_at-label.ensures in
     let declares = c.decl_of-decl.ensures.same ∙ ap (λ (h : Held). h.declaration) c.self.view_is in
     let at_label = subst (λ (d : Declaration). slice_get d.labels c.args.k ≡ Some c.label_at-label.result.now) declares label in
-    let by_held = subst (λ (d : Declaration). SaysEvents d c.label_at-label.result.now.host c.label_at-label.result.now.clock c.index-under.result.now.stream c.args.front.now read.0 read.1) declares read.2 in
+    let by_held = subst (λ (d : Declaration). SaysEvents d c.label_at-label.result.now c.index-under.result.now.stream c.args.front.now read.0 read.1) declares read.2 in
     let room = c.room_left-room.ensures ∙ ap (λ (n : ℕ). most_events - n) counted in
     let answered = refused_in c.args.self.now c.args.k c.room_left-room.result read.0 (length c.args.front.now) read.1 (IsOutcomeLine (Refused TooManyEvents)) (inside_under c.args.self.now c.args.k held c.requires.inside) room read.3 refl in
     piece_read c.args.self.now c.args.self.now c.args.k (under_of c.index-under.result.now) c.args.more c.args.front.now (IsOutcomeLine (Refused TooManyEvents)) more at_under (sym c.has_place.ensures ∙ place)
