@@ -139,4 +139,4 @@ help_text =
 
 -- the number of the version, by the changelog
 abbrev pub version_text : List ℕ
-version_text = codes "tracesync 26\n"
+version_text = codes "tracesync 27\n"

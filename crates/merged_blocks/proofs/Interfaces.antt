@@ -1,5 +1,5 @@
 -- Interfaces of taps can be described.
-use Rattle.std.proofs.Common.{◌≡◌, ◌<◌, ◌≤◌, ◌+◌, ◌^◌, ◌∷◌, [], ◌++◌, ℕ, zero, suc, List, length, get_or, slice_get, Option, Some, None, codes, All, refl, sym, ap, ◌∙◌, arith, length-append}
+use Rattle.std.proofs.Common.{◌≡◌, ◌<◌, ◌≤◌, ◌+◌, ◌^◌, ◌∷◌, [], ℕ, zero, suc, List, length, slice_get, Option, Some, None, codes, All, refl, sym, ap, ◌∙◌, arith, length-append}
 use Rattle.std.specs.Prelude.{slice_index_or}
 use Rattle.std.proofs.lemmas.List.Elements.{All-head, All-tail}
 use Rattle.std.proofs.lemmas.Option.{get_or_from_slice_get, slice_get_within}
@@ -18,7 +18,7 @@ use Rattle.merged_blocks.specs.declared.taps.Tap.{Tap}
 use Rattle.merged_blocks.specs.Descriptions.{clock_words, description_by, interface_by, tap_interface}
 
 -- ---- lengths
-number_short : (n : ℕ) → n < 2 ^ 62 → length (decimal_of n) ≤ 19
+pub number_short : (n : ℕ) → n < 2 ^ 62 → length (decimal_of n) ≤ 19
 number_short n small = length-decimal_of-le 19 n (omega arith) (let below : 2 ^ 62 ≤ 10 ^ 19 = omega arith in omega (arith, small, below))
 
 sum_short : (whole host clock short long early late : ℕ) → whole + 1 ≡ host + 1 + (5 + 1 + (clock + 1 + (5 + 1 + (short + 1 + (3 + 1 + (4 + 1 + (long + 1 + (3 + 1 + (5 + 1 + (early + 1 + (2 + 1 + (4 + 1 + (late + 1 + (2 + 1 + 0)))))))))))))) →
@@ -40,7 +40,7 @@ host_short [] k all = omega arith
 host_short (h ∷ hosts) zero all = (All-head IsClockName h hosts all).short
 host_short (h ∷ hosts) (suc k) all = host_short hosts k (All-tail IsClockName h hosts all)
 
-all_at : {X : Type 0} (P : X → Type 0) (xs : List X) (k : ℕ) (x : X) → All P xs → slice_get xs k ≡ Some x → P x
+pub all_at : {X : Type 0} (P : X → Type 0) (xs : List X) (k : ℕ) (x : X) → All P xs → slice_get xs k ≡ Some x → P x
 all_at P [] k x all at = absurd cc
 all_at P (y ∷ xs) zero x all at = let same : y ≡ x = cc in rw (← same) (All-head P y xs all)
 all_at P (y ∷ xs) (suc k) x all at = all_at P xs k x (All-tail P y xs all) at

@@ -2,6 +2,7 @@ mod TapOrder
 mod TapNumbers
 mod Stamping
 mod Interfaces
+mod Remarking
 mod ReadBack
 mod Pieces
 mod OneList

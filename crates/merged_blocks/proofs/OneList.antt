@@ -1,9 +1,9 @@
 -- Packets have one list of taps.
-use Rattle.std.proofs.Common.{◌≡◌, ◌<◌, ◌⊎◌, zero, suc, List, [], ◌∷◌, All, AllPairs, Contains, refl, sym, ◌∙◌, ap, subst, arith, inl, inr}
+use Rattle.std.proofs.Common.{◌≡◌, ◌⊎◌, zero, suc, List, [], ◌∷◌, All, AllPairs, Contains, refl, sym, ◌∙◌, subst, arith, inl, inr}
 use Rattle.std.proofs.lemmas.List.Elements.{All-contains}
 use Rattle.mergecap.specs.MergedCapture.{Timed}
 use Rattle.merged_blocks.specs.declared.taps.Tap.{Tap}
-use Rattle.merged_blocks.specs.Taps.{AreTapsOf, StandsBefore, tap_of}
+use Rattle.merged_blocks.specs.Taps.{AreTapsOf, StandsBefore}
 
 not_both : (a b : Tap) → StandsBefore a b → StandsBefore b a → ⊥
 not_both a b (inl x) (inl y) = omega (arith, x, y)

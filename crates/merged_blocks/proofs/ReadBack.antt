@@ -1,27 +1,27 @@
 -- A merged file can be written, and is read as the packets that it was made of.
-use Rattle.std.proofs.Common.{◌≡◌, ◌<◌, ◌≤◌, ◌+◌, ◌^◌, ℕ, zero, suc, ℤ, List, [], ◌∷◌, length, drop, get_or, map, slice_get, Some, All, Contains, refl, sym, ap, subst, ◌∙◌, arith}
+use Rattle.std.proofs.Common.{◌≡◌, ◌<◌, ◌≤◌, ◌+◌, ℕ, zero, suc, ℤ, List, [], ◌∷◌, length, drop, get_or, map, slice_get, Some, All, Contains, refl, sym, ap, subst, ◌∙◌, arith}
 use Rattle.std.specs.Prelude.{AllPairs}
 use Rattle.std.proofs.lemmas.List.{length-map}
 use Rattle.std.proofs.lemmas.List.Elements.{All-map, All-head, All-tail, Contains-get_or}
 use Rattle.packets.specs.Packets.{Seen}
 use Rattle.pcapng_stream.specs.Blocks.{Block, interface_number}
-use Rattle.pcapng_stream.specs.Pcapng.{packets_of, present}
 use Rattle.decl.specs.Declaration.{Declaration, IsDeclaration}
 use Rattle.mergecap.specs.MergedCapture.{IsShort, Timed, whole_nanos}
-use Rattle.pcapng_blocks.specs.Bytes.{SaidInterface, SaidPacket}
+use Rattle.pcapng_blocks.specs.Bytes.{SaidPacket}
 use Rattle.pcapng_blocks.specs.File.{IsInterface, IsPacket, IsWritten, Said}
 use Rattle.pcapng_blocks.specs.Reading.{AreReadable, IsReadAs, IsReadable, links_of, seen_interface, seen_packet}
 use Rattle.merged_blocks.specs.declared.taps.Tap.{Tap}
-use Rattle.merged_blocks.specs.Taps.{AreTapsOf, StandsBefore, number_of, tap_of}
+use Rattle.merged_blocks.specs.Taps.{StandsBefore, number_of, tap_of}
 use Rattle.merged_blocks.specs.Descriptions.{tap_interface}
 use Rattle.merged_blocks.specs.MergedFile.{AreDated, IsDated, date_of, dated_packet, merged_file, most_taps}
 use Rattle.merged_blocks.specs.Reading.{AreEarly, IsReadBack, dated}
 use Rattle.merged_blocks.proofs.Stamping.{whole_small}
 use Rattle.merged_blocks.proofs.Interfaces.{is_interface, link_is}
 use Rattle.merged_blocks.proofs.TapNumbers.{number_there}
+use Rattle.merged_blocks.proofs.Remarking.{remark_short}
 
 -- ---- what is so of each packet
-module _ (d : Declaration) (taps : List Tap) (shift : ℤ) where
+module _ (d : Declaration) (declared : IsDeclaration d) (taps : List Tap) (shift : ℤ) where
   -- the packet is of one of the taps, and may be written
   record Is (t : Timed) : Type 0 where
     there : Contains taps (tap_of t)
@@ -31,14 +31,14 @@ module _ (d : Declaration) (taps : List Tap) (shift : ℤ) where
   each : (ts : List Timed) → AreDated ts taps shift → All IsShort ts → All Is ts
   each ts are short k t inside = record { there = are.are_taps.every (get_or ts k t) (Contains-get_or ts k t inside); dated = are.each k t inside; short = short k t inside }
 
-  packet_fits : AllPairs StandsBefore taps → length taps ≤ most_taps → (t : Timed) → Is t → IsPacket (dated_packet taps shift t)
+  packet_fits : AllPairs StandsBefore taps → length taps ≤ most_taps → (t : Timed) → Is t → IsPacket (dated_packet d taps shift t)
   packet_fits sorted few t is =
       let number = (number_there taps (tap_of t) sorted is.there).0 in record {
         interface = omega (arith, number, few);
         stamp = whole_small (date_of shift t) is.dated.stamp.low is.dated.stamp.high;
         original = is.dated.fields.original;
         captured = is.short;
-        comment = omega arith;
+        comment = remark_short d t declared.labels.label_names is.dated.fields.number is.dated.fields.stamp;
       }
 
   -- the link types of interfaces are those of taps
@@ -51,19 +51,19 @@ module _ (d : Declaration) (taps : List Tap) (shift : ℤ) where
   link_at (x ∷ ts) zero tap at = let same : x ≡ tap = cc in ap (λ (y : Tap). y.link) same
   link_at (x ∷ ts) (suc n) tap at = link_at ts n tap at
 
-  packet_seen : AllPairs StandsBefore taps → (t : Timed) → Is t → seen_packet (map (tap_interface d) taps) (dated_packet taps shift t) ≡ dated shift t
+  packet_seen : AllPairs StandsBefore taps → (t : Timed) → Is t → seen_packet (map (tap_interface d) taps) (dated_packet d taps shift t) ≡ dated taps shift t
   packet_seen sorted t is =
       let at = (number_there taps (tap_of t) sorted is.there).1 in
       let link : get_or (links_of (map (tap_interface d) taps)) (number_of taps (tap_of t)) 0 ≡ t.packet.link =
       ap (λ (ls : List ℕ). get_or ls (number_of taps (tap_of t)) 0) (links_are taps) ∙ link_at taps (number_of taps (tap_of t)) (tap_of t) at in
-      ap (λ (l : ℕ). let s : Seen = record { stamp = whole_nanos (date_of shift t); link = l; original_length = t.packet.original_length; bytes = t.packet.bytes } in s) link
+      ap (λ (l : ℕ). let s : Seen = record { stamp = whole_nanos (date_of shift t); link = l; interface = Some (number_of taps (tap_of t)); original_length = t.packet.original_length; bytes = t.packet.bytes } in s) link
 
   -- ---- all packets
-  all_fit : AllPairs StandsBefore taps → length taps ≤ most_taps → (ts : List Timed) → All Is ts → All IsPacket (map (dated_packet taps shift) ts)
-  all_fit sorted few ts are = All-map IsPacket (dated_packet taps shift) ts (λ k t inside. packet_fits sorted few (get_or ts k t) (are k t inside))
+  all_fit : AllPairs StandsBefore taps → length taps ≤ most_taps → (ts : List Timed) → All Is ts → All IsPacket (map (dated_packet d taps shift) ts)
+  all_fit sorted few ts are = All-map IsPacket (dated_packet d taps shift) ts (λ k t inside. packet_fits sorted few (get_or ts k t) (are k t inside))
 
-  all_readable : AllPairs StandsBefore taps → (ts : List Timed) → All Is ts → AreEarly shift ts → All (IsReadable (map (tap_interface d) taps)) (map (dated_packet taps shift) ts)
-  all_readable sorted ts are early = All-map (IsReadable (map (tap_interface d) taps)) (dated_packet taps shift) ts (λ k t inside. record {
+  all_readable : AllPairs StandsBefore taps → (ts : List Timed) → All Is ts → AreEarly shift ts → All (IsReadable (map (tap_interface d) taps)) (map (dated_packet d taps shift) ts)
+  all_readable sorted ts are early = All-map (IsReadable (map (tap_interface d) taps)) (dated_packet d taps shift) ts (λ k t inside. record {
     interface = (
         let number = (number_there taps (tap_of (get_or ts k t)) sorted (are k t inside).there).0 in
         let long = length-map taps (tap_interface d) in
@@ -71,7 +71,7 @@ module _ (d : Declaration) (taps : List Tap) (shift : ℤ) where
     stamp = early k t inside;
   })
 
-  all_seen : AllPairs StandsBefore taps → (ts : List Timed) → All Is ts → map (seen_packet (map (tap_interface d) taps)) (map (dated_packet taps shift) ts) ≡ map (dated shift) ts
+  all_seen : AllPairs StandsBefore taps → (ts : List Timed) → All Is ts → map (seen_packet (map (tap_interface d) taps)) (map (dated_packet d taps shift) ts) ≡ map (dated taps shift) ts
   all_seen sorted [] are = refl
   all_seen sorted (t ∷ ts) are = let first = packet_seen sorted t (All-head Is t ts are) in let more = all_seen sorted ts (All-tail Is t ts are) in rw (first, more) refl
 
@@ -80,7 +80,7 @@ module _ (d : Declaration) (taps : List Tap) (shift : ℤ) where
   by_number [] = refl
   by_number (b ∷ bs) = let more = by_number bs in rw more refl
 
-  all_under : AllPairs StandsBefore taps → (ts : List Timed) → All Is ts → map (λ (n : ℕ). slice_get taps n) (map (λ (p : SaidPacket). p.interface) (map (dated_packet taps shift) ts)) ≡ map (λ (t : Timed). Some (tap_of t)) ts
+  all_under : AllPairs StandsBefore taps → (ts : List Timed) → All Is ts → map (λ (n : ℕ). slice_get taps n) (map (λ (p : SaidPacket). p.interface) (map (dated_packet d taps shift) ts)) ≡ map (λ (t : Timed). Some (tap_of t)) ts
   all_under sorted [] are = refl
   all_under sorted (t ∷ ts) are =
       let first = (number_there taps (tap_of t) sorted (All-head Is t ts are).there).1 in
@@ -103,26 +103,26 @@ pub is_written : (d : Declaration) (ts : List Timed) (taps : List Tap) (shift : 
 is_written d ts taps shift declared are short = record {
   comment = omega arith;
   interfaces = All-map IsInterface (tap_interface d) taps (λ k tap inside. is_interface d declared (get_or taps k tap) (tap_links ts taps shift are k tap inside));
-  packets = all_fit d taps shift are.are_taps.sorted are.few ts (each d taps shift ts are short);
+  packets = all_fit d declared taps shift are.are_taps.sorted are.few ts (each d declared taps shift ts are short);
 }
 
 pub read_back : ((f : Said) → AreReadable f → IsReadAs f) → (d : Declaration) (ts : List Timed) (taps : List Tap) (shift : ℤ) → IsDeclaration d → AreDated ts taps shift → All IsShort ts → AreEarly shift ts → IsReadBack d taps shift ts
 read_back law d ts taps shift declared are short early =
     let sorted = are.are_taps.sorted in
-    let all = each d taps shift ts are short in
+    let all = each d declared taps shift ts are short in
     let long : length (map (tap_interface d) taps) ≡ length taps = length-map taps (tap_interface d) in
     let readable : AreReadable (merged_file d taps shift ts) = record {
       written = is_written d ts taps shift declared are short;
       few = let few = are.few in omega (arith, few, long);
-      packets = all_readable d taps shift sorted ts all early;
+      packets = all_readable d declared taps shift sorted ts all early;
     } in
     let is = law (merged_file d taps shift ts) readable in
     record {
       capture = is.capture;
       reads = is.reads;
       no_rest = is.no_rest;
-      interfaces = is.interfaces ∙ interfaces_seen d taps shift taps;
-      packets = is.packets ∙ all_seen d taps shift sorted ts all;
-      under = by_number d taps shift (drop (1 + length taps) is.capture.blocks) ∙ ap (λ (n : ℕ). map (λ (k : ℕ). slice_get taps k) (map interface_number (drop (1 + n) is.capture.blocks))) (sym long)
-          ∙ ap (map (λ (k : ℕ). slice_get taps k)) is.under ∙ all_under d taps shift sorted ts all;
+      interfaces = is.interfaces ∙ interfaces_seen d declared taps shift taps;
+      packets = is.packets ∙ all_seen d declared taps shift sorted ts all;
+      under = by_number d declared taps shift (drop (1 + length taps) is.capture.blocks) ∙ ap (λ (n : ℕ). map (λ (k : ℕ). slice_get taps k) (map interface_number (drop (1 + n) is.capture.blocks))) (sym long)
+          ∙ ap (map (λ (k : ℕ). slice_get taps k)) is.under ∙ all_under d declared taps shift sorted ts all;
     }

@@ -1,5 +1,5 @@
 -- Dates of packets that stamps can say, or not.
-use Rattle.std.proofs.Common.{◌≡◌, ◌<◌, ◌≤◌, ◌+◌, ◌*◌, ◌/◌, ◌^◌, ◌⊎◌, inl, inr, ℕ, zero, suc, ℤ, pos, negsuc, ◌+ℤ◌, ◌-ℤ◌, ◌≤ℤ◌, ◌<ℤ◌, unsigned_abs, List, [], ◌∷◌, length, map, get_or, All, Any, Bool, true, false, MatchBool, Contains, Option, Some, None, refl, sym, ap, subst, ◌∙◌, arith}
+use Rattle.std.proofs.Common.{◌≡◌, ◌<◌, ◌≤◌, ◌+◌, ◌/◌, ◌^◌, ◌⊎◌, inl, inr, ℕ, zero, suc, ℤ, pos, negsuc, ◌+ℤ◌, ◌-ℤ◌, ◌≤ℤ◌, ◌<ℤ◌, unsigned_abs, List, [], ◌∷◌, length, get_or, All, Any, Bool, true, false, MatchBool, Option, Some, None, refl, sym, ap, subst, ◌∙◌, arith}
 use Rattle.std.proofs.lemmas.Bool.{cases_lt}
 use Rattle.std.proofs.lemmas.Int.{by_lt_z, ints}
 use Rattle.std.proofs.lemmas.List.{get_or-map, length-map}
@@ -15,8 +15,8 @@ use Rattle.mergecap.specs.declared.stored.Stored.{Stored}
 use Rattle.mergecap.specs.MergedCapture.{Timed}
 use Rattle.mergecap.specs.Packets.{timed, all_timed}
 use Rattle.merged_blocks.specs.declared.taps.Tap.{Tap}
-use Rattle.merged_blocks.specs.Taps.{AreTapsOf, tap_of}
-use Rattle.merged_blocks.specs.MergedFile.{AreDated, HasNoStamp, HasStamp, IsDated, date_limit, date_of, most_taps}
+use Rattle.merged_blocks.specs.Taps.{AreTapsOf}
+use Rattle.merged_blocks.specs.MergedFile.{AreDated, HasNoStamp, IsDated, date_limit, most_taps}
 
 -- ---- numbers
 -- a sum that has no 128 bits is no date that a stamp can say

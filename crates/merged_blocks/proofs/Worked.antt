@@ -1,20 +1,27 @@
 -- Two packets of two labels, worked out.
-use Rattle.std.proofs.Common.{◌≡◌, ◌⊎◌, inl, inr, ℕ, zero, suc, ℤ, pos, negsuc, List, [], ◌∷◌, codes, Contains, AllPairs, refl, arith}
-use Rattle.problem_model.specs.declared.items.Clock.{Clock}
+use Rattle.std.proofs.Common.{◌≡◌, inl, ℕ, zero, suc, pos, negsuc, List, [], ◌∷◌, None, Some, false, codes, Contains, AllPairs, refl, arith}
 use Rattle.packets.specs.Packets.{Seen}
-use Rattle.mergecap.specs.MergedCapture.{Timed, whole_nanos}
-use Rattle.pcapng_blocks.specs.Bytes.{SaidPacket}
+use Rattle.decl.specs.declared.items.Label.{Label}
+use Rattle.decl.specs.declared.items.TraceKind.TheVariants.{Capture}
+use Rattle.decl.specs.Declaration.{Declaration}
+use Rattle.mergecap.specs.MergedCapture.{Timed}
 use Rattle.merged_blocks.specs.declared.taps.Tap.{Tap}
 use Rattle.merged_blocks.specs.Taps.{AreTapsOf, StandsBefore, number_of, tap_of}
 use Rattle.merged_blocks.specs.Descriptions.{clock_words}
-use Rattle.merged_blocks.specs.MergedFile.{HasStamp, date_of, dated_packet}
+use Rattle.merged_blocks.specs.MergedFile.{HasStamp, dated_packet}
 
 -- at 10 ns less 1 unit a packet of 2 of 60 bytes under the label at place 1, and one at 0 under that at place 0
 abbrev late : Timed
-late = record { key = record { value = pos 9999999999; place = 1; n = 1 }; packet = let p : Seen = record { stamp = 7; link = 101; original_length = 60; bytes = 8 ∷ 9 ∷ [] } in p }
+late = record { key = record { value = pos 9999999999; place = 1; n = 1 }; packet = let p : Seen = record { stamp = 7; link = 101; interface = None; original_length = 60; bytes = 8 ∷ 9 ∷ [] } in p }
 
 abbrev early : Timed
-early = record { key = record { value = pos 0; place = 0; n = 1 }; packet = let p : Seen = record { stamp = 7; link = 1; original_length = 0; bytes = [] } in p }
+early = record { key = record { value = pos 0; place = 0; n = 1 }; packet = let p : Seen = record { stamp = 7; link = 1; interface = Some 0; original_length = 0; bytes = [] } in p }
+
+abbrev label_named : List ℕ → Label
+label_named name = record { name = name; host = 0; clock = 0; kind = Capture; interface = None; segment = None; first_subnet = 0; subnet_count = 0 }
+
+abbrev worked_declaration : Declaration
+worked_declaration = record { hosts = []; clocks = []; owners = []; addresses = []; addresses6 = []; labels = label_named (codes "a") ∷ label_named (codes "b") ∷ []; subnets = []; links = []; payload_bytes = 0; tcp_options = false; fragments = false; window = None; source = None }
 
 abbrev taps : List Tap
 taps = record { place = 0; link = 1 } ∷ record { place = 1; link = 101 } ∷ []
@@ -44,7 +51,7 @@ worked-number : number_of taps (tap_of late) ≡ 1
 worked-number = refl
 
 -- dates are 100 ns more than times: the packet is at 109 ns, rounded down
-worked-packet : dated_packet taps (pos 100000000000) late ≡ record { interface = 1; stamp = 109; original = 60; bytes = 8 ∷ 9 ∷ []; comment = [] }
+worked-packet : dated_packet worked_declaration taps (pos 100000000000) late ≡ record { interface = 1; stamp = 109; original = 60; bytes = 8 ∷ 9 ∷ []; comment = codes "tracesync b#1 stamp 7" }
 worked-packet = refl
 
 -- and 1 ns less than times the first packet has no date

@@ -9,6 +9,7 @@ use Rattle.merged_blocks.specs.declared.dates.DateError.{DateError}
 use Rattle.merged_blocks.specs.declared.dates.DateError.TheVariants.{Range, Memory}
 use Rattle.merged_blocks.specs.Taps.{AreTapsOf, number_of, tap_of}
 use Rattle.merged_blocks.specs.Descriptions.{tap_interface}
+use Rattle.merged_blocks.specs.Remarks.{remark_of}
 
 -- ---- dates
 -- the date of a packet, in units of 1e-9 ns: its time, and so much more
@@ -29,23 +30,26 @@ abbrev pub HasNoStamp : ℤ → Timed → Type 0
 HasNoStamp shift t = (date_of shift t <ℤ pos 0) ⊎ (date_limit ≤ℤ date_of shift t)
 
 -- ---- the file
--- a packet under the interface of its tap, with its date as its stamp, rounded down to whole ns, and with both its lengths
-abbrev pub dated_packet : List Tap → ℤ → Timed → SaidPacket
-dated_packet taps shift t = record {
+-- a packet under the interface of its tap, with its date as its stamp, rounded down to whole ns, with both its lengths, and
+-- with what is said of it
+abbrev pub dated_packet : Declaration → List Tap → ℤ → Timed → SaidPacket
+dated_packet d taps shift t = record {
   interface = number_of taps (tap_of t);
   stamp = whole_nanos (date_of shift t);
   original = t.packet.original_length;
   bytes = t.packet.bytes;
-  comment = [];
+  comment = remark_of d t;
 }
 
 -- one section, an interface for each tap, and the packets in their order
 abbrev pub merged_file : Declaration → List Tap → ℤ → List Timed → Said
-merged_file d taps shift ts = record { comment = []; interfaces = map (tap_interface d) taps; packets = map (dated_packet taps shift) ts }
+merged_file d taps shift ts = record { comment = []; interfaces = map (tap_interface d) taps; packets = map (dated_packet d taps shift) ts }
 
 -- ---- packets that have a file
--- the link type of a packet has 16 bits, and its original length 32
+-- the link type of a packet has 16 bits, its original length and its number 32, and its stamp 62
 pub record FitsFields (t : Timed) : Type 0 where
+  pub number : t.key.n < 2 ^ 32
+  pub stamp : t.packet.stamp < 2 ^ 62
   pub link : t.packet.link < 65536
   pub original : t.packet.original_length < 2 ^ 32
 

@@ -1,5 +1,5 @@
 -- The code's merged packets, when they can be written.
-use Rattle.std.specs.Prelude.{◌<◌, List, length, All, pos, ◌≤ℤ◌}
+use Rattle.std.specs.Prelude.{◌<◌, length, All, pos, ◌≤ℤ◌}
 use Rattle.decl.specs.Declaration.{Declaration}
 use Rattle.mergecap.specs.MergedCapture.{IsShort}
 use Rattle.mergecap.specs.Packets.{all_timed, shift_of}

@@ -96,6 +96,22 @@ fn original_length(stored: &Stored) -> u32
     stored.packet.original_length
 }
 
+// The number of a packet under its label.
+fn number(stored: &Stored) -> u32
+    ensures is { result ≡ (timed stored.now).key.n }
+    ensures small { result < 2 ^ 32 }
+{
+    stored.n
+}
+
+// The stamp of a packet in ns of its own clock.
+fn own_stamp(stored: &Stored) -> u64
+    ensures is { result ≡ (timed stored.now).packet.stamp }
+    ensures small { result < 2 ^ 62 }
+{
+    stored.packet.stamp.get()
+}
+
 // Whether a stamp can say the date of a packet.
 fn has_stamp(stored: &Stored, start: Start) -> bool
     requires value { pos 0 ≤ℤ stored.now.value }
@@ -106,6 +122,8 @@ fn has_stamp(stored: &Stored, start: Start) -> bool
     // They tell how many bits the fields of a packet have.
     let _ = tap_of(stored);
     let _ = original_length(stored);
+    let _ = number(stored);
+    let _ = own_stamp(stored);
     stamp_of(stored, start).is_some()
 }
 

@@ -1,10 +1,12 @@
 //! Merged packets as one file of pcapng (draft-ietf-opsawg-pcapng, PCAP Next Generation Capture File Format): one section, an
-//! interface for each label and each link type that its packets have, and each packet with its date and both its lengths.
+//! interface for each label and each link type that its packets have, and each packet with its date, both its lengths, and a
+//! comment that names its event.
 #![tactic(auto)]
 
 mod dates;
 mod descriptions;
 mod laws;
+mod remarks;
 mod taps;
 mod write;
 

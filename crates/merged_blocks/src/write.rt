@@ -18,6 +18,7 @@ use crate::DatedPackets;
 use crate::dates::stamp_of;
 use crate::descriptions::clock_line;
 use crate::laws::files_are_read_back;
+use crate::remarks::remark_line;
 use crate::taps::{Tap, number_of, tap_of};
 use decl::{Decl, Label};
 use mergecap::{Start, Stored};
@@ -108,6 +109,7 @@ fn interface_of(taps: &[Tap], stored: &Stored) -> u32
 
 // Writes a packet under the interface of its tap, with its date as its stamp.
 fn write_dated<O: Sink>(
+    decl: &Decl,
     taps: &[Tap],
     start: Start,
     stored: &Stored,
@@ -116,39 +118,45 @@ fn write_dated<O: Sink>(
     requires sorted { AllPairs StandsBefore taps.now }
     requires there { Contains taps.now (tap_of (timed stored.now)) }
     requires few { length taps.now ≤ most_taps }
+    requires declared { IsDeclaration (declaration_of decl.now) }
+    requires label { stored.now.place < length decl.now.labels.items }
     requires time { pos 0 ≤ℤ start.time }
     requires dated { IsDated (shift_of start) (timed stored.now) }
     requires short { IsShort (timed stored.now) }
-    ensures { Writes (packet_bytes (dated_packet taps.now (shift_of start) (timed stored.now))) (O.told out.old) (O.told out.new) result }
+    ensures { Writes (packet_bytes (dated_packet (declaration_of decl.now) taps.now (shift_of start) (timed stored.now))) (O.told out.old) (O.told out.new) result }
 {
     let stamp = match stamp_of(stored, start) {
         Some(stamp) => stamp,
         None => unreachable!(),
     };
+    let remark = remark_line(decl, stored);
     let packet = PacketText {
         interface: interface_of(taps, stored),
         stamp,
         original: stored.packet.original_length,
         bytes: &stored.packet.bytes,
-        comment: b"",
+        comment: remark.as_slice(),
     };
     write_packet(&packet, out)
 }
 
 // Writes packets, one after the other.
 fn write_packets<O: Sink>(
+    decl: &Decl,
     taps: &[Tap],
     start: Start,
     kept: &[Stored],
     out: &mut O,
 ) -> Result<(), Failed>
+    requires declared { IsDeclaration (declaration_of decl.now) }
+    requires labels { All (λ (tap : Tap). tap.place < length decl.now.labels.items) taps.now }
     requires time { pos 0 ≤ℤ start.time }
     requires dated { AreDated (all_timed kept.now) taps.now (shift_of start) }
     requires short { All IsShort (all_timed kept.now) }
-    ensures { Writes (flat_map packet_bytes (map (dated_packet taps.now (shift_of start)) (all_timed kept.now))) (O.told out.old) (O.told out.new) result }
+    ensures { Writes (flat_map packet_bytes (map (dated_packet (declaration_of decl.now) taps.now (shift_of start)) (all_timed kept.now))) (O.told out.old) (O.told out.new) result }
 {
     for stored in kept {
-        write_dated(taps, start, stored, out)?;
+        write_dated(decl, taps, start, stored, out)?;
     }
     Ok(())
 }
@@ -159,7 +167,8 @@ fn write_packets<O: Sink>(
 /// An interface has the link type of its tap, the name of its label (if_name), and says of it (if_description) its host,
 /// its clock, and by how much that clock's rate may be off, in parts per billion, and its stamps, in ns; its stamps count
 /// ns (if_tsresol 9), and it has no limit on how much of a packet is captured. A packet's stamp is its date, rounded down
-/// to whole ns; it has both its lengths.
+/// to whole ns; it has both its lengths, and a comment (opt_comment): `tracesync`, its event, `stamp`, and its stamp in ns of
+/// its own clock.
 ///
 /// The declaration is that of the labels, each packet has at most 262,144 bytes and a date, and the time of the first
 /// event is not below 0. It takes no memory. Where all dates are below 2^62 ns, the whole of it is read as these packets with these
@@ -176,5 +185,5 @@ pub fn write_merged<O: Sink>(decl: &Decl, dated: &DatedPackets, out: &mut O) -> 
     files_are_read_back();
     write_section(b"", out)?;
     write_taps(decl, &dated.taps, out)?;
-    write_packets(&dated.taps, dated.start, &dated.packets, out)
+    write_packets(decl, &dated.taps, dated.start, &dated.packets, out)
 }

@@ -1,6 +1,5 @@
-use Rattle.std.proofs.Common.{◌≡◌, ◌∙◌, ℕ, List, [], ◌∷◌, codes, refl, rules}
+use Rattle.std.proofs.Common.{◌≡◌, ◌∙◌, [], ◌∷◌, codes, refl, rules}
 use Rattle.atto.specs.Decimal.{decimal_of}
-use Rattle.line_format.specs.Words.{words}
 use Rattle.merged_blocks.proofs.descriptions.clock_line.Goals as goal
 
 pub returns-clause-is : goal.returns-clause-is

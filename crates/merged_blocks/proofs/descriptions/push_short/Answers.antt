@@ -1,4 +1,4 @@
-use Rattle.std.proofs.Common.{◌≡◌, ◌+◌, ◌∷◌, ◌++◌, [], length, refl, ap, arith, length-append}
+use Rattle.std.proofs.Common.{◌∷◌, [], length, refl, ap, arith, length-append}
 use Rattle.merged_blocks.proofs.descriptions.push_short.Goals as goal
 
 pub returns-clause-grown : goal.returns-clause-grown

@@ -1,4 +1,4 @@
-use Rattle.std.proofs.Common.{◌≡◌, List, map, ap, ◌∙◌}
+use Rattle.std.proofs.Common.{List, map, ap, ◌∙◌}
 use Rattle.std.specs.List.{flat_map}
 use Rattle.ports.proofs.Writing.{writes_as, writes_failed, writes_front, writes_then}
 use Rattle.decl.specs.Declaration.{declaration_of}
@@ -13,7 +13,7 @@ use Rattle.merged_blocks.proofs.write.write_merged.Goals as goal
 pub returns-in_err-write_section-clause-writes : goal.returns-in_err-write_section-clause-writes
 returns-in_err-write_section-clause-writes g c =
     let x = c.args.dated.now in
-    writes_failed c.from_residual.ensures.0 (writes_front (flat_map packet_bytes (map (dated_packet x.taps.items (shift_of x.start)) (all_timed x.packets.items)))
+    writes_failed c.from_residual.ensures.0 (writes_front (flat_map packet_bytes (map (dated_packet (declaration_of c.args.decl.now) x.taps.items (shift_of x.start)) (all_timed x.packets.items)))
     (writes_front (flat_map interface_bytes (map (tap_interface (declaration_of c.args.decl.now)) x.taps.items)) c.in_err-write_section.ensures))
 
 pub returns-in_err-write_section-clause-written : goal.returns-in_err-write_section-clause-written
@@ -24,7 +24,7 @@ returns-in_err-write_section-clause-written g c =
 pub returns-in_err-write_taps-clause-writes : goal.returns-in_err-write_taps-clause-writes
 returns-in_err-write_taps-clause-writes g c =
     let x = c.args.dated.now in
-    writes_failed c.from_residual-in_err-write_taps.ensures.0 (writes_front (flat_map packet_bytes (map (dated_packet x.taps.items (shift_of x.start)) (all_timed x.packets.items)))
+    writes_failed c.from_residual-in_err-write_taps.ensures.0 (writes_front (flat_map packet_bytes (map (dated_packet (declaration_of c.args.decl.now) x.taps.items (shift_of x.start)) (all_timed x.packets.items)))
     (writes_then c.in_ok-write_section.ensures
     (writes_as (ap (λ (taps : List Tap). flat_map interface_bytes (map (tap_interface (declaration_of c.args.decl.now)) taps)) c.deref.ensures.value) c.in_err-write_taps.ensures)))
 
@@ -37,8 +37,8 @@ pub returns-clause-writes : goal.returns-clause-writes
 returns-clause-writes g c =
     let x = c.args.dated.now in
     let shift = shift_of x.start in
-    let packets = ap (λ (taps : List Tap). flat_map packet_bytes (map (dated_packet taps shift) (all_timed c.deref-3.result.now))) c.deref-2.ensures.value
-    ∙ ap (λ (kept : List Stored). flat_map packet_bytes (map (dated_packet x.taps.items shift) (all_timed kept))) c.deref-3.ensures.value in
+    let packets = ap (λ (taps : List Tap). flat_map packet_bytes (map (dated_packet (declaration_of c.args.decl.now) taps shift) (all_timed c.deref-3.result.now))) c.deref-2.ensures.value
+    ∙ ap (λ (kept : List Stored). flat_map packet_bytes (map (dated_packet (declaration_of c.args.decl.now) x.taps.items shift) (all_timed kept))) c.deref-3.ensures.value in
     writes_then (writes_then c.in_ok-write_section.ensures
     (writes_as (ap (λ (taps : List Tap). flat_map interface_bytes (map (tap_interface (declaration_of c.args.decl.now)) taps)) c.deref.ensures.value) c.in_ok-write_taps.ensures))
     (writes_as packets c.write_packets.ensures)
