@@ -37,6 +37,7 @@ fn store(alloc: Global, kept: &mut Vec<Stored>, frame: &Frame) -> Result<(), All
     let packet = Packet {
         stamp: Nano::new(100).unwrap(),
         link: frame.link,
+        interface: None,
         original_length: 28,
         bytes,
     };

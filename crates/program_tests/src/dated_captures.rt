@@ -24,6 +24,15 @@ const SAID_OF_A: &[u8; 53] = b"a clock a short 0 ppb long 0 ppb early 0 ns late 
 
 const SAID_OF_B: &[u8; 53] = b"b clock b short 0 ppb long 0 ppb early 0 ns late 0 ns";
 
+// What there is to say of a packet: its event, and the stamp of its own clock.
+const FIRST_OF_A: &[u8; 23] = b"tracesync a#1 stamp 100";
+
+const SECOND_OF_A: &[u8; 23] = b"tracesync a#2 stamp 180";
+
+const FIRST_OF_B: &[u8; 23] = b"tracesync b#1 stamp 250";
+
+const SECOND_OF_B: &[u8; 23] = b"tracesync b#2 stamp 300";
+
 fn push_section(bytes: &mut Vec<u8>) -> Result<(), AllocError> {
     bytes.extend_from_slice(&[
         0x0a, 0x0d, 0x0d, 0x0a, 28, 0, 0, 0, 0x4d, 0x3c, 0x2b, 0x1a, 1, 0, 0, 0, 0xff, 0xff, 0xff,
@@ -44,8 +53,9 @@ fn push_interface(
     bytes.extend_from_slice(&[0, 0, 0, 9, 0, 1, 0, 9, 0, 0, 0, 0, 0, 0, 0, 100, 0, 0, 0])
 }
 
-// A packet of so many bytes under an interface, at a date below 2^16 ns.
-fn push_long(
+// A packet in a block of so many bytes: its interface, its date below 2^16 ns, how long it was, and its bytes.
+fn push_front(
+    size: u8,
     interface: u8,
     date: [u8; 2],
     length: u8,
@@ -53,20 +63,40 @@ fn push_long(
     bytes: &mut Vec<u8>,
 ) -> Result<(), AllocError> {
     let [low, high] = date;
-    bytes.extend_from_slice(&[6, 0, 0, 0, 60, 0, 0, 0, interface, 0, 0, 0, 0, 0, 0, 0])?;
+    bytes.extend_from_slice(&[6, 0, 0, 0, size, 0, 0, 0, interface, 0, 0, 0, 0, 0, 0, 0])?;
     bytes.extend_from_slice(&[low, high, 0, 0, 28, 0, 0, 0, length, 0, 0, 0])?;
-    bytes.extend_from_slice(packet)?;
+    bytes.extend_from_slice(packet)
+}
+
+// A packet of which nothing is said.
+fn push_plain_packet(
+    interface: u8,
+    date: [u8; 2],
+    length: u8,
+    packet: &[u8; 28],
+    bytes: &mut Vec<u8>,
+) -> Result<(), AllocError> {
+    push_front(60, interface, date, length, packet, bytes)?;
     bytes.extend_from_slice(&[60, 0, 0, 0])
 }
 
-// A packet that was captured whole.
+// What is said of a packet, as its comment, and the end of its block.
+fn push_comment(said: &[u8; 23], bytes: &mut Vec<u8>) -> Result<(), AllocError> {
+    bytes.extend_from_slice(&[1, 0, 23, 0])?;
+    bytes.extend_from_slice(said)?;
+    bytes.extend_from_slice(&[0, 0, 0, 0, 0, 92, 0, 0, 0])
+}
+
+// A packet that was captured whole, and what is said of it.
 fn push_packet(
     interface: u8,
     date: [u8; 2],
     packet: &[u8; 28],
+    said: &[u8; 23],
     bytes: &mut Vec<u8>,
 ) -> Result<(), AllocError> {
-    push_long(interface, date, 28, packet, bytes)
+    push_front(92, interface, date, 28, packet, bytes)?;
+    push_comment(said, bytes)
 }
 
 // The four packets at these dates, those of the second host with this link type.
@@ -75,10 +105,10 @@ fn push_file(link: u8, dates: &[[u8; 2]; 4], bytes: &mut Vec<u8>) -> Result<(), 
     push_section(bytes)?;
     push_interface(b'a', 101, SAID_OF_A, bytes)?;
     push_interface(b'b', link, SAID_OF_B, bytes)?;
-    push_packet(0, *first, &THERE, bytes)?;
-    push_packet(1, *second, &THERE, bytes)?;
-    push_packet(1, *third, &BACK, bytes)?;
-    push_packet(0, *fourth, &BACK, bytes)
+    push_packet(0, *first, &THERE, FIRST_OF_A, bytes)?;
+    push_packet(1, *second, &THERE, FIRST_OF_B, bytes)?;
+    push_packet(1, *third, &BACK, SECOND_OF_B, bytes)?;
+    push_packet(0, *fourth, &BACK, SECOND_OF_A, bytes)
 }
 
 // Whether a merge over these files ends so.
@@ -164,8 +194,8 @@ fn put_two_links(alloc: Global, files: &mut MemFiles) -> Result<(), AllocError> 
     push_section(&mut bytes)?;
     push_plain_interface(101, &mut bytes)?;
     push_plain_interface(1, &mut bytes)?;
-    push_long(0, [100, 0], 40, &THERE, &mut bytes)?;
-    push_packet(1, [180, 0], &BACK, &mut bytes)?;
+    push_plain_packet(0, [100, 0], 40, &THERE, &mut bytes)?;
+    push_plain_packet(1, [180, 0], 28, &BACK, &mut bytes)?;
     files.put("a", &bytes)
 }
 
@@ -183,8 +213,9 @@ fn has_both_links(alloc: Global) -> Result<bool, AllocError> {
     push_section(&mut file)?;
     push_interface(b'a', 1, SAID_OF_A, &mut file)?;
     push_interface(b'a', 101, SAID_OF_A, &mut file)?;
-    push_long(1, [100, 0], 40, &THERE, &mut file)?;
-    push_packet(0, [180, 0], &BACK, &mut file)?;
+    push_front(92, 1, [100, 0], 40, &THERE, &mut file)?;
+    push_comment(FIRST_OF_A, &mut file)?;
+    push_packet(0, [180, 0], &BACK, SECOND_OF_A, &mut file)?;
     ends_over(alloc, &mut files, "add a a\n", Status::Done, &file)
 }
 

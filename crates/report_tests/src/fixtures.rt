@@ -14,11 +14,11 @@ pub(crate) fn declared(alloc: Global, text: &[u8]) -> Option<Decl>
     read_decl(alloc, text).ok()
 }
 
-// The events of a log with this text, whose stamps are of a clock by its place.
+// The events of a log with this text, under the label at a place.
 pub(crate) fn events_of_log(
     alloc: Global,
     decl: &Decl,
-    clock: u32,
+    place: usize,
     text: &[u8],
 ) -> Option<Vec<Event>>
     requires { IsDeclaration (declaration_of decl.now) }
@@ -26,15 +26,16 @@ pub(crate) fn events_of_log(
     if text.len() > 1 << 28 {
         return None;
     }
+    let label = decl.labels.get(place)?;
     let rows = read_rows(alloc, text).ok()?;
-    row_events(alloc, decl, clock, rows).ok()
+    row_events(alloc, decl, label, rows).ok()
 }
 
 // What is accepted of such a log.
-pub(crate) fn log_of(alloc: Global, decl: &Decl, clock: u32, text: &[u8]) -> Option<Accepted>
+pub(crate) fn log_of(alloc: Global, decl: &Decl, place: usize, text: &[u8]) -> Option<Accepted>
     requires { IsDeclaration (declaration_of decl.now) }
 {
-    let events = events_of_log(alloc, decl, clock, text)?;
+    let events = events_of_log(alloc, decl, place, text)?;
     Some(Accepted {
         events,
         size: text.len() as u64,

@@ -54,6 +54,7 @@ const NO_EVENT: NoKeys = NoKeys {
     length: 0,
     side: 0,
     local: 0,
+    interface: 0,
 };
 
 const NONE_PASSED: PassedSums = PassedSums {
@@ -116,6 +117,7 @@ const CAPTURE: Case = Case {
         length: 0,
         side: 0,
         local: 0,
+        interface: 0,
     },
     passed: PassedSums {
         simple: 0,
@@ -166,6 +168,7 @@ const ESCAPES: Case = Case {
         length: 600000,
         side: 7000000,
         local: 4294967295,
+        interface: 80000000,
     },
     passed: PassedSums {
         simple: 18446744073709551615,
@@ -180,7 +183,7 @@ const ESCAPES: Case = Case {
     }],
     line: "{\"alone\":4294967295,\"ambiguous\":[{\"key\":\"log \\\"q\\\\/'~\",\"receives\":[\"z.log_1-x#2\",\"z.log_1-x#1000000\"],\
     \"sends\":[\"z.log_1-x#1\"]}],\"consistent\":false,\"events\":4294967295,\"messages\":10,\
-    \"nokey\":{\"fragment\":50000,\"header\":4000,\"length\":600000,\"link\":1,\"local\":4294967295,\"other\":20,\
+    \"nokey\":{\"fragment\":50000,\"header\":4000,\"interface\":80000000,\"length\":600000,\"link\":1,\"local\":4294967295,\"other\":20,\
     \"short\":300,\"side\":7000000},\"passed\":{\"obsolete\":4294967296,\"other\":70,\
     \"simple\":18446744073709551615},\"unmatched\":200}\n",
 };
@@ -200,6 +203,7 @@ const GROUPS: Case = Case {
         length: 0,
         side: 0,
         local: 4,
+        interface: 0,
     },
     passed: NONE_PASSED,
     dropped: &[],

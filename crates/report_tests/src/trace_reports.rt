@@ -17,7 +17,7 @@ use report::{key_text, report_line, view_of};
 use shared_fixtures::EMPTY_REPORT;
 use std::alloc::{AllocError, Global};
 use std::test::*;
-use traces::{Event, MessageKey, event_count, packet_events};
+use traces::{Content, Event, MessageKey, event_count, packet_events};
 
 // Captures at the hosts a and b, a log at a and two at b.
 const DECLARATION: &[u8] =
@@ -315,6 +315,7 @@ fn packets_of(alloc: Global, frames: &[Frame]) -> Option<Vec<Packet>> {
         let packet = Packet {
             stamp,
             link,
+            interface: None,
             original_length,
             bytes,
         };
@@ -323,29 +324,24 @@ fn packets_of(alloc: Global, frames: &[Frame]) -> Option<Vec<Packet>> {
     Some(packets)
 }
 
-// The events of frames that were captured at a host whose only clock has this place.
-fn captured(
-    alloc: Global,
-    decl: &Decl,
-    host: u32,
-    clock: u32,
-    frames: &[Frame],
-) -> Option<Vec<Event>>
+// The events of frames that were captured under the label at a place.
+fn captured(alloc: Global, decl: &Decl, place: usize, frames: &[Frame]) -> Option<Vec<Event>>
     requires { IsDeclaration (declaration_of decl.now) }
 {
+    let label = decl.labels.get(place)?;
     let packets = packets_of(alloc, frames)?;
-    packet_events(alloc, decl, host, clock, &packets).ok()
+    packet_events(alloc, decl, label, &packets).ok()
 }
 
 // The events of each label, from the last to the first.
 fn events_backward(alloc: Global, decl: &Decl, case: &Case) -> Option<Vec<Vec<Event>>>
     requires { IsDeclaration (declaration_of decl.now) }
 {
-    let at_a = captured(alloc, decl, 0, 0, case.frames[0])?;
-    let at_b = captured(alloc, decl, 1, 1, case.frames[1])?;
-    let of_a = events_of_log(alloc, decl, 0, case.logs[0])?;
-    let of_b = events_of_log(alloc, decl, 1, case.logs[1])?;
-    let of_c = events_of_log(alloc, decl, 1, case.logs[2])?;
+    let at_a = captured(alloc, decl, 0, case.frames[0])?;
+    let at_b = captured(alloc, decl, 1, case.frames[1])?;
+    let of_a = events_of_log(alloc, decl, 2, case.logs[0])?;
+    let of_b = events_of_log(alloc, decl, 3, case.logs[1])?;
+    let of_c = events_of_log(alloc, decl, 4, case.logs[2])?;
     let mut labels = Vec::from_array(alloc, [at_a, at_b, of_a, of_b, of_c]).ok()?;
     for events in &mut labels {
         events.reverse();
@@ -491,6 +487,14 @@ const TIMESTAMPS: &[u8] = b"\x08\x0a\x0d\x6d\x4d\x09\xc9\x04\x00\x11";
 const TIMESTAMPS_TOLD: &str =
     "tcp 10.0.0.1:0 10.0.0.2:65535 id 1 seq 4294967295 ack 0 flags 255 length 40 payload - options 080a0d6d4d09c9040011";
 
+// The key of a message with this content.
+fn message_with(content: Content) -> MessageKey {
+    MessageKey {
+        segment: 0,
+        content,
+    }
+}
+
 // A key with these headers: of TCP with these options where the protocol is 6, and else of UDP.
 fn packet_key(protocol: u8, network: Network, bytes: &[u8], told: &[u8]) -> MessageKey {
     let mut payload = ArrayVec::new();
@@ -516,7 +520,7 @@ fn packet_key(protocol: u8, network: Network, bytes: &[u8], told: &[u8]) -> Mess
             payload,
         })
     };
-    MessageKey::Packet(PacketKey { network, transport })
+    message_with(Content::Packet(PacketKey { network, transport }))
 }
 
 fn has_text(alloc: Global, key: &MessageKey, wanted: &str) -> bool {
@@ -528,7 +532,7 @@ fn has_text(alloc: Global, key: &MessageKey, wanted: &str) -> bool {
 
 fn is_word_told(alloc: Global, word: &str, wanted: &str) -> bool {
     match WordKey::new(word.as_bytes()) {
-        Some(word) => has_text(alloc, &MessageKey::Word(word), wanted),
+        Some(word) => has_text(alloc, &message_with(Content::Word(word)), wanted),
         None => false,
     }
 }

@@ -3,8 +3,8 @@
 //! `additions` has what is replied to each addition and each command, `cut_additions` a capture that comes in pieces,
 //! `limits` files that have more than a session takes, `questions` what is asked of two events, `several_clocks` what is
 //! replied of hosts with several clocks, `keeps` events that are kept, `wide_captures` packets of IPv6, `passed_packets`
-//! packets that are passed over, `windows` messages that go by when their ends happened (`session`); `scripts` has whole
-//! scripts (`session`); `fixtures` what several of them use.
+//! packets that are passed over, `windows` messages that go by when their ends happened, `segments` messages of several
+//! segments (`session`); `scripts` has whole scripts (`session`); `fixtures` what several of them use.
 #![tactic(auto)]
 
 #[cfg(test)]
@@ -23,6 +23,8 @@ mod passed_packets;
 mod questions;
 #[cfg(test)]
 mod scripts;
+#[cfg(test)]
+mod segments;
 #[cfg(test)]
 mod several_clocks;
 #[cfg(test)]

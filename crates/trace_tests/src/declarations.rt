@@ -1,4 +1,4 @@
-ghost use Rattle.decl.specs.Declaration.{HasLawfulLabels, declaration_of};
+ghost use Rattle.decl.specs.Declaration.{HasLawfulLabels, IsDeclaration, declaration_of};
 
 use decl::{Decl, DeclError, IpVersion, Section, TraceKind, read_decl};
 use std::alloc::Global;
@@ -111,22 +111,27 @@ fn are_links(decl: &Decl, wanted: &Wanted) -> bool {
         })
 }
 
+// Whether a declaration says all that is wanted.
+fn says_all(decl: &Decl, wanted: &Wanted) -> bool
+    requires { IsDeclaration (declaration_of decl.now) }
+{
+    are_hosts(decl, wanted)
+        && are_clocks(decl, wanted)
+        && are_owners(decl, wanted)
+        && are_addresses(decl, wanted)
+        && are_labels(decl, wanted)
+        && finds_labels(decl, wanted)
+        && are_links(decl, wanted)
+        && decl.payload_bytes == wanted.payload_bytes
+        && decl.tcp_options == wanted.tcp_options
+        && decl.fragments == wanted.fragments
+        && is_same(wanted.window, decl.window.map(|window| window.get()))
+        && decl.source == wanted.source
+}
+
 pub(crate) fn says(alloc: Global, text: &str, wanted: &Wanted) -> bool {
     match read_decl(alloc, text.as_bytes()) {
-        Ok(decl) => {
-            are_hosts(&decl, wanted)
-                && are_clocks(&decl, wanted)
-                && are_owners(&decl, wanted)
-                && are_addresses(&decl, wanted)
-                && are_labels(&decl, wanted)
-                && finds_labels(&decl, wanted)
-                && are_links(&decl, wanted)
-                && decl.payload_bytes == wanted.payload_bytes
-                && decl.tcp_options == wanted.tcp_options
-                && decl.fragments == wanted.fragments
-                && is_same(wanted.window, decl.window.map(|window| window.get()))
-                && decl.source == wanted.source
-        }
+        Ok(decl) => says_all(&decl, wanted),
         Err(_) => false,
     }
 }

@@ -1,27 +1,26 @@
 ghost use Rattle.std.specs.Prelude.{◌≤◌, ◌^◌, length};
 
-use crate::fixtures::declared;
+use crate::fixtures::{declared, packet_of, plain_label};
 use arrayvec::ArrayVec;
-use atto::Nano;
-use captures::Packet;
+use decl::TraceKind;
 use event_log::read_rows;
 use headers::{Network, PacketKey, Transport, UserDatagram};
 use std::alloc::Global;
 use std::test::*;
-use traces::{Event, Key, Mark, MessageKey, Moment, NoKey, Side, packet_events, row_events};
+use traces::{Content, Event, Key, Mark, Moment, NoKey, Side, packet_events, row_events};
 
 const FIRST: u32 = 0x0a00_0001;
 
 const SECOND: u32 = 0x0a00_0002;
 
 // UDP from the first address and port 5000 to the second one and port 6000.
-const OVER: [u8; 28] = [
+pub(crate) const OVER: [u8; 28] = [
     0x45, 0, 0, 28, 0, 7, 0, 0, 0x40, 17, 0, 0, 10, 0, 0, 1, 10, 0, 0, 2, 0x13, 0x88, 0x17, 0x70,
     0, 8, 0, 0,
 ];
 
 // And back.
-const BACK: [u8; 28] = [
+pub(crate) const BACK: [u8; 28] = [
     0x45, 0, 0, 28, 0, 8, 0, 0, 0x40, 17, 0, 0, 10, 0, 0, 2, 10, 0, 0, 1, 0x17, 0x70, 0x13, 0x88,
     0, 8, 0, 0,
 ];
@@ -43,7 +42,7 @@ const WIDE_FIRST: u128 = 0xfd00_0000_0000_0000_0000_0000_0000_0001;
 const WIDE_SECOND: u128 = 0xfd00_0000_0000_0000_0000_0000_0000_0002;
 
 // UDP over IPv6 from the first address of IPv6 and port 5000 to the second one and port 6000.
-const WIDE_OVER: [u8; 48] = [
+pub(crate) const WIDE_OVER: [u8; 48] = [
     0x60, 0, 0, 0, 0, 8, 0x11, 0x40, //
     0xfd, 0, 0, 0, 0, 0, 0, 0, 0, 0, 0, 0, 0, 0, 0, 1, //
     0xfd, 0, 0, 0, 0, 0, 0, 0, 0, 0, 0, 0, 0, 0, 0, 2, //
@@ -96,17 +95,10 @@ const REASONS: [(u16, &[u8], NoKey); 7] = [
 // The event of a packet that was captured at 100 ns, by the only clock of its host, which has the host's place.
 fn event_of(alloc: Global, declaration: &str, host: u32, link: u16, frame: &[u8]) -> Option<Event> {
     let decl = declared(alloc, declaration)?;
-    let mut bytes = Vec::new(alloc);
-    bytes.extend_from_slice(frame).ok()?;
-    let stamp = Nano::new(100)?;
-    let packet = Packet {
-        stamp,
-        link,
-        original_length: 60,
-        bytes,
-    };
+    let packet = packet_of(alloc, link, None, frame)?;
     let packets = Vec::from_array(alloc, [packet]).ok()?;
-    let mut events = packet_events(alloc, &decl, host, host, &packets).ok()?;
+    let label = plain_label(TraceKind::Capture, host, host)?;
+    let mut events = packet_events(alloc, &decl, &label, &packets).ok()?;
     events.pop()
 }
 
@@ -148,9 +140,9 @@ fn wide_key() -> PacketKey {
 
 // Whether a key is that of this packet, without a window.
 fn is_packet(key: &Key, wanted: &PacketKey) -> bool {
-    match &key.message {
-        MessageKey::Packet(packet) => packet == wanted && key.moment.is_none(),
-        MessageKey::Word(_) => false,
+    match &key.message.content {
+        Content::Packet(packet) => packet == wanted && key.moment.is_none(),
+        Content::Word(_) => false,
     }
 }
 
@@ -229,9 +221,9 @@ const ROWS: [Row; 3] = [
 
 // Whether a key is this word, at this moment.
 fn is_word(key: &Key, wanted: &str, moment: Option<Moment>) -> bool {
-    match &key.message {
-        MessageKey::Packet(_) => false,
-        MessageKey::Word(word) => word.bytes() == wanted.as_bytes() && key.moment == moment,
+    match &key.message.content {
+        Content::Packet(_) => false,
+        Content::Word(word) => word.bytes() == wanted.as_bytes() && key.moment == moment,
     }
 }
 
@@ -262,7 +254,8 @@ fn rows_of(alloc: Global, declaration: &str, clock: u32, log: &[u8]) -> Option<V
 {
     let decl = declared(alloc, declaration)?;
     let rows = read_rows(alloc, log).ok()?;
-    row_events(alloc, &decl, clock, rows).ok()
+    let label = plain_label(TraceKind::Log, 0, clock)?;
+    row_events(alloc, &decl, &label, rows).ok()
 }
 
 fn are_rows(alloc: Global, log: &[u8]) -> Option<bool>

@@ -3,14 +3,16 @@ ghost use Rattle.std.specs.Prelude.{IfSome};
 ghost use Rattle.decl.specs.Declaration.{IsDeclaration, declaration_of};
 
 use arrayvec::ArrayVec;
-use decl::{Decl, read_decl};
+use atto::Nano;
+use captures::Packet;
+use decl::{Decl, Label, TraceKind, read_decl};
 use event_log::{LogError, WordKey, read_rows};
 use headers::{Network, PacketKey, Transport, UserDatagram};
-use problem_model::MOST_EVENTS;
+use problem_model::{MOST_EVENTS, Name};
 use reference_traces::{messages_in, missing};
 use std::alloc::{AllocError, Global};
 use traces::{
-    Accepted, Couple, Event, EventId, Key, MessageKey, Moment, Side, Stream, event_count,
+    Accepted, Content, Couple, Event, EventId, Key, MessageKey, Moment, Side, Stream, event_count,
     row_events,
 };
 
@@ -27,6 +29,41 @@ pub(crate) fn declared(alloc: Global, text: &str) -> Option<Decl>
     ensures { IfSome result (λ d. IsDeclaration (declaration_of d)) }
 {
     read_decl(alloc, text.as_bytes()).ok()
+}
+
+// Two hosts with an address of each version, and the beginning of a label at the first one.
+const HEAD: &[u8] = b"[hosts.a]\naddresses = ['10.0.0.1']\naddresses6 = ['fd00:0:0:0:0:0:0:1']\n\
+    [hosts.b]\naddresses = ['10.0.0.2']\naddresses6 = ['fd00:0:0:0:0:0:0:2']\n[labels.l]\nhost = 'a'\n";
+
+// The text of a declaration whose only label, or first one of several, goes on so.
+pub(crate) fn label_text(alloc: Global, rest: &str) -> Result<Vec<u8>, AllocError> {
+    let mut text = Vec::from_slice(alloc, HEAD)?;
+    text.extend_from_slice(rest.as_bytes())?;
+    Ok(text)
+}
+
+// The declaration of a text in bytes.
+pub(crate) fn declared_by(alloc: Global, text: &[u8]) -> Option<Decl>
+    ensures { IfSome result (λ d. IsDeclaration (declaration_of d)) }
+{
+    read_decl(alloc, text).ok()
+}
+
+// A packet that was captured at 100 ns.
+pub(crate) fn packet_of(
+    alloc: Global,
+    link: u16,
+    interface: Option<u32>,
+    frame: &[u8],
+) -> Option<Packet> {
+    let bytes = Vec::from_slice(alloc, frame).ok()?;
+    Some(Packet {
+        stamp: Nano::new(100)?,
+        link,
+        interface,
+        original_length: 60,
+        bytes,
+    })
 }
 
 // A declaration of logs under three labels.
@@ -67,25 +104,39 @@ fn moment_at(text: &str) -> Option<Moment> {
     })
 }
 
-// A key without a time: behind a `/` stands the payload of a packet, and any other text is a word.
-fn message_with(text: &str) -> Option<MessageKey> {
+// What stands in a message: behind a `/` stands the payload of a packet, and any other text is a word.
+fn content_with(text: &str) -> Option<Content> {
     match text.strip_prefix('/') {
-        Some(payload) => Some(MessageKey::Packet(packet_key(0, payload.as_bytes())?)),
-        None => Some(MessageKey::Word(WordKey::new(text.as_bytes())?)),
+        Some(payload) => Some(Content::Packet(packet_key(0, payload.as_bytes())?)),
+        None => Some(Content::Word(WordKey::new(text.as_bytes())?)),
     }
 }
 
-// The key of a text; behind an `@` stands its time.
-pub(crate) fn key_with(text: &str) -> Option<Key> {
+// A key without a time, on a segment.
+fn message_with(segment: u32, text: &str) -> Option<MessageKey> {
+    let content = content_with(text)?;
+    Some(MessageKey { segment, content })
+}
+
+// The key of a text on a segment; behind an `@` stands its time.
+fn key_on(segment: u32, text: &str) -> Option<Key> {
     match text.split_once('@') {
         Some((message, time)) => Some(Key {
-            message: message_with(message)?,
+            message: message_with(segment, message)?,
             moment: Some(moment_at(time)?),
         }),
         None => Some(Key {
-            message: message_with(text)?,
+            message: message_with(segment, text)?,
             moment: None,
         }),
+    }
+}
+
+// The key of a text; in front of a `|` stands the number of its segment, which is 0 where there is none.
+pub(crate) fn key_with(text: &str) -> Option<Key> {
+    match text.split_once('|') {
+        Some((segment, rest)) => key_on(segment.parse::<u32>().ok()?, rest),
+        None => key_on(0, text),
     }
 }
 
@@ -98,11 +149,25 @@ pub(crate) fn accepted(events: Vec<Event>, size: u64) -> Accepted {
     }
 }
 
-// What is accepted of a log with this text, whose rows are stamped by this clock.
+// The label of a trace of this kind at a host, stamped by this clock of it, of which nothing else is said.
+pub(crate) fn plain_label(kind: TraceKind, host: u32, clock: u32) -> Option<Label> {
+    Some(Label {
+        name: Name::new(b"l")?,
+        host,
+        clock,
+        kind,
+        interface: None,
+        segment: None,
+        first_subnet: 0,
+        subnet_count: 0,
+    })
+}
+
+// What is accepted of a log with this text, under this label.
 pub(crate) fn log_of(
     alloc: Global,
     decl: &Decl,
-    clock: u32,
+    label: &Label,
     text: &str,
 ) -> Result<Accepted, LogError>
     requires { IsDeclaration (declaration_of decl.now) }
@@ -111,7 +176,7 @@ pub(crate) fn log_of(
         return Err(LogError::Memory);
     }
     let rows = read_rows(alloc, text.as_bytes())?;
-    let events = row_events(alloc, decl, clock, rows)?;
+    let events = row_events(alloc, decl, label, rows)?;
     Ok(accepted(events, text.len() as u64))
 }
 
@@ -125,7 +190,7 @@ pub(crate) fn logs_of(
 {
     let mut logs = Vec::new(alloc);
     for (label, text) in decl.labels.iter().zip(texts) {
-        logs.push(log_of(alloc, decl, label.clock, text)?)?;
+        logs.push(log_of(alloc, decl, label, text)?)?;
     }
     Ok(logs)
 }

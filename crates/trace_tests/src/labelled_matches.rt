@@ -20,7 +20,8 @@ type Unclear = (&'static str, &'static [[u32; 2]], &'static [[u32; 2]]);
 struct Step {
     label: u32,
     // Side and key of each; a key with a `/` in front is that of a packet whose payload is the rest, behind an `@`
-    // stands its time in ns, where the window is 10 ns, and one without a letter is none.
+    // stands its time in ns, where the window is 10 ns, in front of a `|` the number of its segment, and one without a
+    // letter is none.
     ends: &'static [(Side, &'static str)],
     added: u32,
     withdrawn: u32,
@@ -296,6 +297,71 @@ const WITHDRAWN: [Step; 3] = [
     },
 ];
 
+// One word and one packet on several segments; those of the first segment are told without its number.
+const ON_SEGMENTS: [Step; 3] = [
+    Step {
+        label: 0,
+        ends: &[(SEND, "1|m"), (SEND, "2|m"), (RECEIVE, "m"), (SEND, "1|/p")],
+        added: 0,
+        withdrawn: 0,
+        messages: &[],
+        unmatched: 4,
+        unclear: &[],
+    },
+    Step {
+        label: 1,
+        ends: &[(RECEIVE, "2|m"), (RECEIVE, "1|m"), (RECEIVE, "2|/p")],
+        added: 2,
+        withdrawn: 0,
+        messages: &[[0, 1, 1, 2], [0, 2, 1, 1]],
+        unmatched: 3,
+        unclear: &[],
+    },
+    Step {
+        label: 2,
+        ends: &[(SEND, "2|m"), (RECEIVE, "1|/p"), (SEND, "m")],
+        added: 2,
+        withdrawn: 1,
+        messages: &[[0, 1, 1, 2], [0, 4, 2, 2], [2, 3, 0, 3]],
+        unmatched: 1,
+        unclear: &[("2|m", &[[0, 2], [2, 1]], &[[1, 1]])],
+    },
+];
+
+// The same with times: events of another segment join no groups.
+const ON_SEGMENTS_IN_TIME: [Step; 3] = [
+    Step {
+        label: 0,
+        ends: &[(SEND, "1|m@0"), (SEND, "2|m@5")],
+        added: 0,
+        withdrawn: 0,
+        messages: &[],
+        unmatched: 2,
+        unclear: &[],
+    },
+    Step {
+        label: 1,
+        ends: &[(RECEIVE, "2|m@10"), (RECEIVE, "1|m@11")],
+        added: 1,
+        withdrawn: 0,
+        messages: &[[0, 2, 1, 1]],
+        unmatched: 2,
+        unclear: &[],
+    },
+    Step {
+        label: 2,
+        ends: &[(SEND, "2|m@20"), (RECEIVE, "1|m@5")],
+        added: 0,
+        withdrawn: 1,
+        messages: &[],
+        unmatched: 0,
+        unclear: &[
+            ("2|m@5", &[[0, 2], [2, 1]], &[[1, 1]]),
+            ("1|m@0", &[[0, 1]], &[[1, 2], [2, 2]]),
+        ],
+    },
+];
+
 fn mark(side: Side, text: &str) -> Option<Mark> {
     if text.is_empty() {
         return Some(Mark::Unkeyed(NoKey::Local));
@@ -503,6 +569,7 @@ fn additions(rt: HostRuntime) {
     );
     assert!(rt; replay(rt.alloc(), &AT_ONCE) == Ok(true), "at once");
     assert!(rt; replay(rt.alloc(), &APART) == Ok(true), "apart");
+    assert!(rt; replay(rt.alloc(), &ON_SEGMENTS) == Ok(true), "on segments");
 }
 
 #[test]
@@ -510,4 +577,8 @@ fn additions_in_time(rt: HostRuntime) {
     assert!(rt; replay(rt.alloc(), &IN_A_ROW) == Ok(true), "in a row");
     assert!(rt; replay(rt.alloc(), &TWO_GROUPS) == Ok(true), "two groups");
     assert!(rt; replay(rt.alloc(), &WITHDRAWN) == Ok(true), "withdrawn");
+    assert!(rt;
+        replay(rt.alloc(), &ON_SEGMENTS_IN_TIME) == Ok(true),
+        "on segments in time"
+    );
 }

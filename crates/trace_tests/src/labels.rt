@@ -7,7 +7,7 @@ use problem_model::MOST_EVENTS;
 use reference_traces::messages;
 use std::alloc::{AllocError, Global};
 use std::test::*;
-use traces::{Accepted, Couple, Event, Key, Mark, MessageKey, Side, event_count, events};
+use traces::{Accepted, Content, Couple, Event, Key, Mark, MessageKey, Side, event_count, events};
 
 // The logs of three labels before, and after more was accepted.
 struct Case {
@@ -265,17 +265,20 @@ const MIXED: [Mixed; 4] = [
     },
 ];
 
-fn message_of(known: Known) -> Option<MessageKey> {
+fn content_of(known: Known) -> Option<Content> {
     match known {
-        Known::Packet(id) => Some(MessageKey::Packet(packet_key(id, b"m")?)),
-        Known::Word(text) => Some(MessageKey::Word(WordKey::new(text.as_bytes())?)),
+        Known::Packet(id) => Some(Content::Packet(packet_key(id, b"m")?)),
+        Known::Word(text) => Some(Content::Word(WordKey::new(text.as_bytes())?)),
     }
 }
 
 fn key_of(known: Known) -> Option<Key> {
-    let message = message_of(known)?;
+    let content = content_of(known)?;
     Some(Key {
-        message,
+        message: MessageKey {
+            segment: 0,
+            content,
+        },
         moment: None,
     })
 }

@@ -6,7 +6,8 @@
 //! `labels` the events and messages under labels (`traces`); `matches` sends and receives of a key (`msg_match`);
 //! `labelled_matches` those under labels (`msg_match`); `problems` the problem that is made (`reference_traces`);
 //! `rosters` what is listed of events that come (`roster`); `tcp_options` the options of segments (`headers`);
-//! `fixtures` has what several of them use.
+//! `vantages` what is declared of the place where a trace was taken (`decl`), `sides` the events of packets by it, and
+//! `segments` the messages of several segments (`traces`); `fixtures` has what several of them use.
 #![tactic(auto)]
 
 #[cfg(test)]
@@ -34,4 +35,10 @@ mod problems;
 #[cfg(test)]
 mod rosters;
 #[cfg(test)]
+mod segments;
+#[cfg(test)]
+mod sides;
+#[cfg(test)]
 mod tcp_options;
+#[cfg(test)]
+mod vantages;

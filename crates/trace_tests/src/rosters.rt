@@ -70,7 +70,7 @@ const UNKNOWN: [&str; 8] = [
 fn log_under(alloc: Global, roster: &Roster, label: u32, text: &str) -> Option<Accepted> {
     let decl = roster.decl();
     let label = decl.labels.get(label as usize)?;
-    log_of(alloc, decl, label.clock, text).ok()
+    log_of(alloc, decl, label, text).ok()
 }
 
 fn push_log(alloc: Global, roster: &mut Roster, label: u32, text: &str) -> Option<u32> {
