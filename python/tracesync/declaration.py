@@ -28,13 +28,20 @@ CAUSES = {
     6: "an address is not spelled as one, or is there twice",
     7: "no clock has the name of the source, or its `short` or `long` is not 0",
     8: "the document has more than 2^24 bytes",
+    9: "a label has the same addresses on both of its sides",
 }
 NUMBERS = ("short", "long", "early", "late")
 HOST, CLOCK = {*NUMBERS, "offset", "addresses", "addresses6", "clocks"}, {*NUMBERS, "offset", "name", "gap"}
-LABEL, LINK = {"host", "kind", "clock"}, {"from", "to", "least", "most"}
+# What a label says of the packets of a capture, beside the host and the clock that it is of: of each side's addresses
+# the version.
+NEAR, BEYOND = {"addresses": 4, "addresses6": 6}, {"beyond": 4, "beyond6": 6}
+OF_PACKETS = {"interface", *NEAR, *BEYOND}
+LABEL, LINK = {"host", "kind", "clock", "segment", *OF_PACKETS}, {"from", "to", "least", "most"}
 TOP = {"fragments", "hosts", "labels", "links", "payload_bytes", "source", "tcp_options", "window"}
 ADDRESS = re.compile(r"(0|[1-9]\d{0,2})(\.(0|[1-9]\d{0,2})){3}")
 ADDRESS6 = re.compile(r"[0-9a-fA-F]{1,4}(:[0-9a-fA-F]{1,4}){7}")
+# How many bits an address of each version has, and how many subnets a label may have.
+BITS, SUBNETS_MOST = {4: 32, 6: 128}, 256
 # A declared rate of so few ppb is a slip mostly: a quartz is off by 1 ppm at least.
 RATE_FEW = 1000
 
@@ -123,16 +130,16 @@ def told_clocks(name: str, host: Table, source: Optional[str], labels: Table) ->
     return lines
 
 
-def told_host(name: str, host: Table, source: Optional[str], kinds: Collection[Optional[str]]) -> str:
-    """Returns a host in words; its clocks, if it has several, are told behind it."""
+def told_host(name: str, host: Table, source: Optional[str], labels: list[Table]) -> str:
+    """Returns a host with its labels in words; its clocks, if it has several, are told behind it."""
     clocks = host.get("clocks", [])
     parts = [f"{len(clocks)} clocks, one after the other"] if clocks else told_clock(host, source == name)
     addresses = [*host.get("addresses", []), *host.get("addresses6", [])]
     if addresses:
         parts.append(f"addresses {', '.join(addresses)}")
-    elif "capture" in kinds:
+    elif any(it.get("kind") == "capture" and not subnets_of(it) for it in labels):
         parts.append("NO ADDRESS, though it has a capture: no packet of it will be a message")
-    if not kinds:
+    if not labels:
         parts.append("no label: no trace of it can be added")
     return f"{name}: {'; '.join(parts)}."
 
@@ -140,10 +147,23 @@ def told_host(name: str, host: Table, source: Optional[str], kinds: Collection[O
 def told_label(name: str, label: Table, hosts: Table) -> str:
     """Returns a label in words."""
     told = f"{name}: a {'capture' if label.get('kind') == 'capture' else 'log'} taken at {label.get('host')}"
-    if "clock" in label:
-        return f"{told} and stamped by {label['clock']}."
     clocks = hosts.get(str(label.get("host")), {}).get("clocks", [])
-    return f"{told} and stamped by its first clock, {clocks[0].get('name')}." if clocks else f"{told}."
+    if "clock" in label or clocks:
+        first = label.get("clock") or f"its first clock, {clocks[0].get('name')}"
+        told += f" and stamped by {first}"
+    return "; ".join([told, *told_place(label)]) + "."
+
+
+def told_place(label: Table) -> list[str]:
+    """Returns where a trace was taken, in words."""
+    parts = [f"its messages are those of the segment {label['segment']}"] if "segment" in label else []
+    if "interface" in label:
+        parts.append(f"only packets of the interface {label['interface']} have keys")
+    for side, keys, more in (("near", NEAR, ", and no other address of the same version"), ("beyond", BEYOND, "")):
+        shown = ", ".join(text for it in keys for text in label.get(it, []))
+        verb = "are" if "," in shown or "/" in shown else "is"
+        parts += [f"{side} it {verb} {shown}{more}"] if shown else []
+    return parts
 
 
 def told_link(one: str, other: str, link: Table) -> str:
@@ -169,8 +189,8 @@ def told_declaration(value: Table) -> list[str]:
     hosts, labels = value.get("hosts", {}), value.get("labels", {})
     lines = []
     for name in sorted(hosts):
-        kinds = {it.get("kind") for it in labels.values() if it.get("host") == name}
-        lines.append(told_host(name, hosts[name], value.get("source"), kinds))
+        own = [it for it in labels.values() if it.get("host") == name]
+        lines.append(told_host(name, hosts[name], value.get("source"), own))
         lines += told_clocks(name, hosts[name], value.get("source"), labels) if hosts[name].get("clocks") else []
     lines += [told_label(name, it, hosts) for name, it in sorted(labels.items())]
     links = {(it.get("from"), it.get("to")): it for it in value.get("links", [])}
@@ -323,9 +343,60 @@ def keys_cause(table: Table, keys: Collection[str], needed: Collection[str]) -> 
     return "; ".join([*told, *([f"it lacks {', '.join(lacks)}"] if lacks else [])])
 
 
+def subnets_of(label: Table) -> list[tuple[int, bool, str]]:
+    """Returns the texts of a label's subnets: the version of each, and whether it lies beyond."""
+    return [(version, keys is BEYOND, text) for keys in (NEAR, BEYOND) for key, version in keys.items() for text in label.get(key, [])]
+
+
+def subnet(version: int, text: str) -> Optional[tuple[int, int]]:
+    """Returns the first address of a subnet and how many of its bits count, or None where the text writes none."""
+    address, slash, bits = text.partition("/")
+    if not (is_address(address) if version == 4 else ADDRESS6.fullmatch(address)):
+        return None
+    count = BITS[version] if not slash else int(bits) if re.fullmatch(r"0|[1-9][0-9]{0,2}", bits) else -1
+    if not 0 <= count <= BITS[version]:
+        return None
+    parts = [int(it) for it in address.split(".")] if version == 4 else [int(it, 16) for it in address.split(":")]
+    first = 0
+    for part in parts:
+        first = first << BITS[version] // len(parts) | part
+    return None if first % 2 ** (BITS[version] - count) else (first, count)
+
+
+def subnet_cause(label: Table) -> str:
+    """Returns which subnet of a label is none, is there twice, or is on both sides."""
+    seen: dict[tuple[int, int, int], bool] = {}
+    for version, is_beyond, text in subnets_of(label):
+        found = subnet(version, text)
+        if found is None:
+            like = "10.0.0.1 or 10.0.0.0/24" if version == 4 else "fd00:0:0:0:0:0:0:0/64, eight groups with colons"
+            return f"{text} is no address or subnet such as {like}; bits behind those that count are 0"
+        if (version, *found) in seen:
+            is_on_both = seen[version, found[0], found[1]] != is_beyond
+            return f"{text} is both near and beyond" if is_on_both else f"{text} is there twice"
+        seen[version, found[0], found[1]] = is_beyond
+    return "a subnet is none, or is there twice"
+
+
+def label_range_cause(label: Table) -> str:
+    """Returns which number of a label is out of its range."""
+    count = len(subnets_of(label))
+    if count > SUBNETS_MOST:
+        return f"it has {count} subnets, and {SUBNETS_MOST} are the most"
+    if not 0 <= label.get("interface", 0) < 2**32:
+        return f"interface = {label['interface']} is not from 0 to 4_294_967_295"
+    return "there are more than 65,536 labels"
+
+
 def label_cause(value: Table, name: str, table: Table, number: int) -> str:
     if number == 2:
-        return keys_cause(table, LABEL, LABEL - {"clock"})
+        told = keys_cause(table, LABEL, {"host", "kind"})
+        of_packets = ", ".join(sorted(OF_PACKETS & set(table)))
+        return told or f"a log has no packets, and so none of {of_packets}"
+    if number in (6, 9):
+        return subnet_cause(table)
+    if number == 5:
+        return label_range_cause(table)
     if number == 4:
         if not NAME.fullmatch(name):
             return f"a name is {CHARACTERS}"
@@ -334,8 +405,11 @@ def label_cause(value: Table, name: str, table: Table, number: int) -> str:
         clocks = [it for it, *_ in clocks_of(table["host"], value["hosts"][table["host"]])]
         if table.get("clock", clocks[0]) not in clocks:
             return f"{table['host']} has no clock {table['clock']}, but {', '.join(clocks)}"
+        if table.get("kind") in ("capture", "log"):
+            return f"segment = {table.get('segment')!r} is no name, which is {CHARACTERS}"
         return f"kind = {table.get('kind')!r} is neither \"capture\" nor \"log\""
-    return "its values are texts in quotes" if number == 3 else f"cause {number}"
+    kinds = "its values are texts in quotes, but for interface, a number, and addresses and beyond, texts in brackets"
+    return kinds if number == 3 else f"cause {number}"
 
 
 def link_cause(value: Table, name: str, table: Table, number: int) -> str:

@@ -95,8 +95,8 @@ class AmbiguousKey(TypedDict):
     sends: List[str]
 
 
-class Counts(TypedDict):
-    """How many events have no key, by the reason."""
+class _EachCount(TypedDict):
+    """What every report counts."""
 
     fragment: int
     header: int
@@ -106,6 +106,12 @@ class Counts(TypedDict):
     other: int
     short: int
     side: int
+
+
+class Counts(_EachCount, total=False):
+    """How many events have no key, by the reason; `interface` is there only where it is not 0."""
+
+    interface: int
 
 
 class PassedOver(TypedDict):

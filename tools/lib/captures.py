@@ -27,13 +27,13 @@ BY_INTERFACE, BY_SYSTEM, UNKNOWN = 5, 7, 2**64 - 1
 @dataclass(slots=True)
 class Packet:
     """A packet: its stamp in ns, the number of its link type, its bytes, whether it went out, where the file says so, the
-    number of its interface in a file that has several, and its `frame.number` in Wireshark, where all versions agree."""
+    number of its interface in its section, where it is of pcapng, and its `frame.number` in Wireshark, where all versions agree."""
 
     stamp: int
     link: int
     data: bytes
     is_sent: bool | None = None
-    interface: int = 0
+    interface: int | None = None
     frame: int | None = None
 
 

@@ -6,14 +6,16 @@ from math import ceil
 
 from chrony import Chrony
 from ends import ends_of
-from headers import address_text, decode
+from headers import address_text, decode, interface_of
 from inputs import Input
+from placing import Placing
+from shortfall import Shortfall, table_of
+from sights import PAYLOAD_BYTES
 from texts import plain
+from vantage import Vantage
 
 # A quartz that runs free, in ppm, where nothing is known of it.
 QUARTZ = Decimal(100)
-# The numbers of bytes of the payload that are tried; of several that do as well the first is taken.
-PAYLOAD_BYTES = (8, 16, 32, 64, 0)
 # Half as fast, or twice as fast: `long` would be above what a declaration may have.
 PPM_MOST = 500_000
 
@@ -48,6 +50,13 @@ def rounded_ppm(ppm: Decimal) -> Decimal:
     return Decimal(ceil(ppm / size) * size)
 
 
+def has_messages(inputs: list[Input]) -> bool:
+    """Returns whether a row of a log is a send whose key another row receives."""
+    rows = [row for it in inputs if it.kind == "log" for row in it.content.rows]
+    sends, receives = ({row[2] for row in rows if row[1] == kind} for kind in ("send", "receive"))
+    return bool(sends & receives)
+
+
 class Declaring:
     """A declaration for inputs: what is known of each host, as lines, and what could not be found out."""
 
@@ -61,10 +70,25 @@ class Declaring:
         for name in [*self.chrony, *([self.source] if self.source else [])]:
             if name not in self.hosts:
                 raise ValueError(f"there is no host {name}, but {', '.join(self.hosts)}")
-        self.ends = ends_of(self.captures)
+        self.vantage = Vantage(self.captures)
+        self.ends = ends_of(self.captures, self.vantage)
+        self.placing = Placing(self.vantage, self.ends)
+        self.without = self.without_messages()
+
+    def without_messages(self) -> list[str]:
+        """Returns why no packet can be a message by what is declared, as lines, where it is so and two hosts have captures."""
+        is_cut = any(it.is_cut for it in self.vantage.views)
+        if is_cut or len({it.host for it in self.captures}) < 2 or self.placing.message_count() or self.has_fragments() or has_messages(self.inputs):
+            return []
+        asked = [host for host in self.hosts if host in self.ends.open and self.placing.open(host)]
+        report = {"messages": 0, "ambiguous": [], "nokey": {"side": 1}}
+        found = Shortfall(self.inputs, self.placing.declared(), report, "the declaration", asked, is_found=True)
+        # (with the addresses that are asked for there may be some)
+        return found.lines() if not asked else found.causes()
 
     def text(self) -> str:
         """Returns the declaration."""
+        self.unknown += self.placing.unknown() + (["by what packets are known at two hosts: by this declaration none can be a message"] if self.without else [])
         body = [line for host in self.hosts for line in self.host(host)] + self.labels() + self.links()
         files = ", ".join(f"{it.label} of {plain(it.shown)}" for it in self.inputs)
         head = [f"# Written by tools/declare, for {files}."]
@@ -100,8 +124,14 @@ class Declaring:
 
     def payload_bytes(self) -> tuple[int, int, int]:
         """Returns how many bytes of the payload tell most packets apart, how many packets they do not, and how many are too short for them."""
-        decoded = ((it.host, decode(packet.link, packet.data)[0]) for it in self.captures for packet in it.content.packets)
-        packets = [(host, found) for host, found in decoded if found and found.key]
+        places = {it.label: (it.host, self.placing.values(it.label)) for it in self.captures}
+        packets = []
+        for it in self.captures:
+            host, values = places[it.label]
+            for packet in it.content.packets:
+                found = decode(packet.link, packet.data)[0]
+                if found and found.key and values.get("interface", interface_of(packet)) == interface_of(packet):
+                    packets.append(((host, values.get("segment")), found))
         tried = []
         for at, count in enumerate(PAYLOAD_BYTES):
             keys = Counter((host, found.key, found.payload[:count]) for host, found in packets)
@@ -113,7 +143,7 @@ class Declaring:
     def host(self, name: str) -> list[str]:
         told, ppm = self.rate(name)
         short, long = rates(ppm)
-        lines = ["", f'[hosts."{name}"]' if "." in name else f"[hosts.{name}]", *(f"# {it}" for it in told)]
+        lines = ["", table_of("hosts", name), *(f"# {it}" for it in told)]
         lines += [f"short = {spelled(short)}", f"long = {spelled(long)}", *self.stamps(name, long), *self.addresses(name)]
         return lines
 
@@ -169,12 +199,12 @@ class Declaring:
             lines += [f"# {address_text(it)}: {own[it]}." for it in found]
             if found:
                 lines.append(f"{key} = [{', '.join(f'{chr(34)}{address_text(it)}{chr(34)}' for it in found)}]")
-        pairs = self.ends.open[name]
+        pairs = self.placing.open(name)
         if pairs:
             shown = "; ".join(" or ".join(address_text(it) for it in pair) for pair in pairs[:4]) + ("; .." if len(pairs) > 4 else "")
             self.unknown.append(f"which address is {name}'s: {shown}")
             lines.append(f"# Which of these are its own could not be found out: {shown}.")
-        if not own:
+        if not own and not self.placing.is_placed(name) and not self.placing.is_between(name):
             lines.append('# addresses = ["ITS ADDRESS"]')
             if not pairs:
                 self.unknown.append(f"the addresses of {name}: no packet of its captures is of IP between two hosts")
@@ -185,7 +215,8 @@ class Declaring:
         for it in self.inputs:
             if it.label not in done:
                 done.add(it.label)
-                lines += ["", f'[labels."{it.label}"]' if "." in it.label else f"[labels.{it.label}]", f'host = "{it.host}"', f'kind = "{it.kind}"']
+                lines += ["", table_of("labels", it.label), f'host = "{it.host}"', f'kind = "{it.kind}"']
+                lines += self.placing.lines(it.label)
         return lines
 
     def links(self) -> list[str]:

@@ -7,8 +7,10 @@ from ipaddress import ip_address
 from typing import Any
 
 from captures import Capture
-from headers import Key, address_text, decode, is_unicast
+from headers import Key, address_text, decode, interface_of, is_unicast
 from inputs import Input
+from sights import is_routed
+from vantage import ROUTED_PART, Vantage
 
 # Two addresses, the lesser one first.
 Pair = tuple[bytes, bytes]
@@ -28,23 +30,35 @@ class Seen:
     named: set[bytes] = field(default_factory=set)
     keys: dict[Pair, list[tuple[int, Key]]] = field(default_factory=dict)
     unit: int = 1
+    # (how many packets came from each address, and how many of these have passed a router)
+    sources: Counter[bytes] = field(default_factory=Counter)
+    routed: Counter[bytes] = field(default_factory=Counter)
+    # (those at the station that all of its frames have, each with the reason)
+    at_station: dict[bytes, str] = field(default_factory=dict)
 
-    def add(self, capture: Capture) -> None:
+    def add(self, capture: Capture, interface: int | None = None) -> None:
+        """Takes the packets of a capture, those of an interface where one is named."""
         self.unit = max(self.unit, capture.resolution())
         self.named |= {it for it in capture.addresses if is_unicast(it)}
         for packet in capture.packets:
             found, is_sent = decode(packet.link, packet.data)
-            if found is None or found.source == found.target:
+            if found is None or found.source == found.target or interface not in (None, interface_of(packet)):
                 continue
             pair = (found.source, found.target) if found.source < found.target else (found.target, found.source)
             if pair not in self.pairs and not (is_unicast(found.source) and is_unicast(found.target)):
                 continue
             self.pairs[pair] += 1
+            self.sources[found.source] += 1
+            self.routed[found.source] += is_routed(found.hops)
             is_sent = packet.is_sent if packet.is_sent is not None else is_sent
             if is_sent is not None:
                 self.marked[found.source if is_sent else found.target] += 1
             if found.key:
                 self.keys.setdefault(pair, []).append((packet.stamp, found.key))
+
+    def is_far(self, address: bytes) -> bool:
+        """Returns whether the packets from an address have passed a router, so that it is none of this host's."""
+        return self.sources[address] > 0 and self.routed[address] >= ROUTED_PART * self.sources[address]
 
 
 @dataclass
@@ -59,14 +73,16 @@ class Ends:
         return next((host for host, found in self.own.items() if address in found), None)
 
 
-def find_ends(seen: list[Seen]) -> Ends:
-    """Returns which addresses are whose, by what each host's captures show."""
-    ends = Ends({it.host: {} for it in seen}, {it.host: [] for it in seen})
+def find_ends(seen: list[Seen], boxes: dict[str, dict[bytes, str]] | None = None) -> Ends:
+    """Returns which addresses are whose, by what each host's captures show; those of boxes, which pass packets on, are known."""
+    boxes = boxes or {}
+    ends = Ends({it.host: dict(boxes.get(it.host, {})) for it in seen}, {it.host: [] for it in seen})
+    seen = [it for it in seen if it.host not in boxes]
     for it in seen:
         by_marks(it, ends)
         by_stars(it, ends)
     drop_shared(ends)
-    while by_others(seen, ends) or by_answers(seen, ends):
+    while by_others(seen, ends) or by_answers(seen, ends) or by_stations(seen, ends) or by_hops(seen, ends):
         pass
     drop_shared(ends)
     for it in seen:
@@ -97,7 +113,7 @@ def by_stars(seen: Seen, ends: Ends) -> None:
         peers[one].add(other)
         peers[other].add(one)
     for address, found in sorted(peers.items()):
-        if len(found) > 1 and all(peers[it] == {address} for it in found):
+        if len(found) > 1 and not seen.is_far(address) and all(peers[it] == {address} for it in found):
             count = sum(seen.pairs[pair] for pair in pairs if address in pair)
             told = f"it stands in all {total} packets" if count == total else f"it stands in all {count} packets of {len(found)} peers"
             ends.own[seen.host][address] = told
@@ -109,7 +125,7 @@ def by_others(seen: list[Seen], ends: Ends) -> bool:
     for it in seen:
         for pair in rest(it, ends):
             owners = [ends.owner(address) for address in pair]
-            if owners.count(None) == 1:
+            if owners.count(None) == 1 and not it.is_far(pair[owners.index(None)]):
                 at = owners.index(None)
                 ends.own[it.host][pair[at]] = f"it talked with {address_text(pair[1 - at])}, which is {owners[1 - at]}'s"
                 is_new = True
@@ -131,8 +147,44 @@ def by_answers(seen: list[Seen], ends: Ends) -> bool:
                 first, second = pair if votes[0] > votes[1] else pair[::-1]
                 if max(votes) > 0 and max(votes) >= VOTES_PART * sum(votes):
                     told = f"who asks waits longer than who answers: so it is in {max(votes)} of {sum(votes)} cases that both captures have"
-                    ends.own[one.host][first], ends.own[other.host][second] = told, told
-                    is_new = True
+                    # (a capture that was taken in between has packets of the other end that were routed)
+                    found = [(it, address) for it, address in ((one, first), (other, second)) if not it.is_far(address)]
+                    for it, address in found:
+                        ends.own[it.host][address] = told
+                    is_new = is_new or bool(found)
+    return is_new
+
+
+def by_stations(seen: list[Seen], ends: Ends) -> bool:
+    """Takes of two ends the one at the station that all frames of a host have. Returns whether there was one."""
+    is_new = False
+    for it in seen:
+        for pair in rest(it, ends):
+            found = [address for address in pair if address in it.at_station and ends.owner(address) is None]
+            if len(found) == 1:
+                ends.own[it.host][found[0]] = it.at_station[found[0]]
+                is_new = True
+    return is_new
+
+
+def by_hops(seen: list[Seen], ends: Ends) -> bool:
+    """Takes of two ends the one whose packets have passed no router, where those of the other have. Returns whether there was one.
+
+    Where two hosts have seen it so, one of them may stand in between.
+    """
+    found: dict[bytes, list[tuple[str, bytes]]] = defaultdict(list)
+    for it in seen:
+        for pair in rest(it, ends):
+            for address, peer in (pair, pair[::-1]):
+                if it.sources[address] and not it.routed[address] and it.is_far(peer) and ends.owner(address) is None:
+                    found[address].append((it.host, peer))
+    is_new = False
+    for address, hosts in found.items():
+        if len({host for host, _ in hosts}) == 1:
+            host, peer = hosts[0]
+            ends.own[host][address] = (f"by their hops its packets have passed no router, and those of {address_text(peer)} have. Exchange them where a session is "
+                                       "inconsistent")  # fmt: skip
+            is_new = True
     return is_new
 
 
@@ -162,12 +214,17 @@ def once(found: Iterable[tuple[int, Key]]) -> dict[Key, int]:
     return {key: stamp for stamp, key in found if counts[key] == 1}
 
 
-def ends_of(captures: Iterable[Input]) -> Ends:
-    """Returns which addresses are whose, by inputs that are captures."""
+def ends_of(captures: Iterable[Input], vantage: Vantage | None = None) -> Ends:
+    """Returns which addresses are whose, by inputs that are captures, and by where these were taken, where that was found out."""
+    captures = list(captures)
+    vantage = vantage or Vantage(captures)
     seen = {it.host: Seen(it.host) for it in captures}
+    interfaces = {it.label: it.interface for it in vantage.views}
     for it in captures:
-        seen[it.host].add(it.content)
-    return find_ends(list(seen.values()))
+        seen[it.host].add(it.content, interfaces[it.label])
+    for host, found in vantage.at_stations.items():
+        seen[host].at_station = found
+    return find_ends(list(seen.values()), vantage.boxes)
 
 
 def declared_own(declared: dict[str, Any]) -> dict[str, set[bytes]]:

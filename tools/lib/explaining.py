@@ -10,6 +10,7 @@ from healing import Healing, told_blames, told_cycle
 from inputs import Input, open_input, with_hosts
 from losses import told_losses
 from own_program import PROGRAM, RecordedSession
+from placing import misplaced
 from texts import plain
 from tracesync.certificates import read_cycle
 from tracesync.declaration import read_declaration, refused
@@ -159,9 +160,9 @@ class Explainer:
 
     def told_cycle(self, lines: list[str], problem: list[str] | None, inputs: dict[int, Input], healing: Healing | None = None) -> list[str]:
         """Returns a contradiction in words, as lines."""
-        captures = with_hosts((it for it in inputs.values() if it.kind == "capture"), self.declared)
+        captures = list(with_hosts((it for it in inputs.values() if it.kind == "capture"), self.declared))
         keys = told_keys(lines, inputs, self.path) if self.path and self.declared and not self.declared.get("tcp_options") else []
-        return told_cycle(lines, problem, inputs, self.program, healing) + keys + exchanged(captures, self.declared)
+        return told_cycle(lines, problem, inputs, self.program, healing) + keys + exchanged(captures, self.declared) + misplaced(captures, self.declared)
 
     def told_end(self, lines: list[str]) -> list[str]:
         """Returns what the last line of a run says that is no reply."""

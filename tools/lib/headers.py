@@ -2,6 +2,7 @@
 
 import struct
 from dataclasses import dataclass
+from functools import lru_cache
 from ipaddress import ip_address
 
 from captures import Packet
@@ -16,6 +17,8 @@ TCP, UDP = 6, 17
 EXTENSIONS = (0, 43, 44, 60)
 # Of a list of options of TCP its end, a byte that fills, and those that tell a segment from one that is sent again.
 END, NO_OPERATION, TELLING = 0, 1, (5, 8)
+# A UDP payload of fewer bytes is the same in many packets; of a longer one so many bytes are looked at.
+PAYLOAD_LEAST, PAYLOAD_LOOKED = 8, 16
 # How a cooked header says that a packet went out, and that it came for this host.
 OUT, FOR_US = 4, 0
 FLAG_NAMES = ((2, "SYN"), (16, "ACK"), (1, "FIN"), (4, "RST"), (8, "PSH"))
@@ -39,6 +42,8 @@ class Headers:
     flags: int = 0
     sequence: int = 0
     acknowledged: int = 0
+    # How many routers may hand it on yet.
+    hops: int = 0
     # Whether it is a fragment, or has extension headers: such a packet has a key only where `fragments` is declared.
     is_apart: bool = False
 
@@ -59,20 +64,28 @@ def frame(link: int, data: bytes) -> tuple[int, bytes, bool | None]:
     return 0, b"", None
 
 
+def interface_of(packet: Packet) -> int | None:
+    """Returns the number of the interface that `interface` of a label is compared with: in a capture of `any`, whose cooked header is the
+    second one, that of the header, and else what pcapng says."""
+    if packet.link == COOKED2:
+        return int.from_bytes(packet.data[4:8], "big") if len(packet.data) >= 8 else None
+    return packet.interface
+
+
 def decode(link: int, data: bytes) -> tuple[Headers | None, bool | None]:
     """Returns the headers of a packet and whether it was sent; None for headers where it is none of IP, or was cut within them."""
     kind, data, is_sent = frame(link, data)
     if kind == IPV4 and len(data) >= 20 and data[0] >> 4 == 4:
         return decode4(data), is_sent
     if kind == IPV6 and len(data) >= 40 and data[0] >> 4 == 6:
-        found = Headers(6, data[8:24], data[24:40], data[6], is_apart=data[6] in EXTENSIONS)
+        found = Headers(6, data[8:24], data[24:40], data[6], hops=data[7], is_apart=data[6] in EXTENSIONS)
         return transport(found, data[40:], int.from_bytes(data[4:6], "big"), None), is_sent
     return None, is_sent
 
 
 def decode4(data: bytes) -> Headers:
     head, total, ident, fragment = 4 * (data[0] & 15), *struct.unpack_from(">HHH", data, 2)
-    found = Headers(4, data[12:16], data[16:20], data[9], is_apart=bool(fragment & 0x3FFF))
+    found = Headers(4, data[12:16], data[16:20], data[9], hops=data[8], is_apart=bool(fragment & 0x3FFF))
     if fragment & 0x3FFF or head < 20 or total < head:
         return found
     return transport(found, data[head:], total - head, ident)
@@ -97,6 +110,15 @@ def transport(found: Headers, data: bytes, length: int, ident: int | None) -> He
     return found
 
 
+def content_of(found: Headers) -> Key | None:
+    """Returns what a translation of addresses and ports leaves of a packet, where that tells it from others."""
+    head = found.payload[:PAYLOAD_LOOKED]
+    if found.key is None or len(head) < PAYLOAD_LEAST and found.protocol != TCP or len(head) < min(PAYLOAD_LOOKED, found.payload_length):
+        return None
+    # (behind the addresses, the identification and the ports stand the numbers of TCP and the length)
+    return (found.version, found.protocol, *found.key[6:], head)
+
+
 def telling(options: bytes) -> bytes | None:
     """Returns those of a list of options that tell segments apart, timestamps and selective acknowledgments; None where one is cut."""
     told, at = b"", 0
@@ -116,6 +138,7 @@ def address_text(address: bytes) -> str:
     return ":".join(f"{int.from_bytes(address[at : at + 2], 'big'):x}" for at in range(0, 16, 2))
 
 
+@lru_cache(maxsize=1 << 16)
 def is_unicast(address: bytes) -> bool:
     """Returns whether an address is that of one host: no multicast, no broadcast, no loop back, and not none at all."""
     it = ip_address(address)

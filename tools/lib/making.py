@@ -71,6 +71,8 @@ class Making:
             raise ValueError("--source, --reference and --chrony are for a declaration that is written, and --declaration names one")
         # (hosts whose addresses were not found out)
         self.asked: list[str] = []
+        # (whether the declaration is what tools/declare writes)
+        self.is_found = not said.declaration
         self.chosen = [name for word in said.chosen for name in word.split(",")]
         if len(self.chosen) > FROM_MOST:
             raise ValueError(f"--from has {len(self.chosen)} events, and {FROM_MOST} can be kept")
@@ -150,8 +152,9 @@ class Making:
             write_own(path, text)
         self.say(f"Wrote {self.declaration}: every answer follows from it, so look at each line.")
         self.say(*(f"{it[0].upper()}{it[1:]}." for it in declaring.notes()))
-        self.asked = [host for host, pairs in declaring.ends.open.items() if pairs]
-        self.say(*unknown_lines(declaring.ends.open.items(), self.declaration))
+        pairs = {host: declaring.placing.open(host) for host in declaring.ends.open}
+        self.asked = [host for host, found in pairs.items() if found]
+        self.say(*unknown_lines(pairs.items(), self.declaration))
 
     def write(self, found: Timeline) -> int:
         """Tells what was found, and writes the outputs. Returns the status."""
@@ -168,7 +171,7 @@ class Making:
             self.say("There are no events, and nothing to draw.")
             return 1
         self.progress.begin("writing what was found")
-        self.say(*Shortfall([it for it, _ in found.added], self.declared(), found.report, self.declaration, self.asked).lines())
+        self.say(*Shortfall([it for it, _ in found.added], self.declared(), found.report, self.declaration, self.asked, self.is_found).lines())
         for name, path in self.outputs.items():
             self.output_to(path, self.output(name, found))
         if not self.outputs:

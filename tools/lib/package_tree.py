@@ -19,7 +19,7 @@ DOCUMENTS = "share/doc/tracesync"
 PYTHON_PACKAGE = "python/tracesync/"
 PATH_FILE, PATH_LINE = "lib/python3/dist-packages/tracesync.pth", "../../tracesync/python\n"
 # Pages for whoever uses the program, with the names that things have where they are installed; and what is packed as it is.
-PAGES = ("docs/FORMATS.md", "docs/GUIDE.md", "docs/PROBLEMS.md")
+PAGES = ("docs/FORMATS.md", "docs/GUIDE.md", "docs/VANTAGE.md", "docs/PROBLEMS.md")
 KEPT = ("CHANGELOG.md", "docs/contradiction.svg", "docs/timeline-page.png", "docs/timeline.svg")
 
 

@@ -17,6 +17,7 @@ DECIMALS = {"s": 18, "ms": 15}
 REASONS = {
     "fragment": "of fragments of datagrams",
     "header": "with a header that cannot be one",
+    "interface": "of other interfaces than their label names",
     "length": "with a length that does not fit the others",
     "link": "of a link type whose packets are not read",
     "local": "of one host alone, as its log says",

@@ -64,15 +64,17 @@ def statistics(counts: dict[int, int], interface: int = 0, order: str = "<") -> 
 
 
 def pcapng(packets: Iterable[tuple[int, bytes]], link: int = ETHERNET, resolution: int = 9, order: str = "<", options: bytes = b"",
-           flags: Sequence[int] | None = None) -> bytes:  # fmt: skip
-    """Returns a capture in pcapng with one interface; `flags` has the direction of each packet, 1 in and 2 out."""
+           flags: Sequence[int] | None = None, numbers: Sequence[int] | None = None) -> bytes:  # fmt: skip
+    """Returns a capture in pcapng with one interface; `flags` has the direction of each packet, 1 in and 2 out, and `numbers` the number of
+    its interface, where there are several."""
     per_second = 2 ** (resolution & 127) if resolution & 128 else 10**resolution
     out = block(0x0A0D0D0A, struct.pack(f"{order}IHHq", 0x1A2B3C4D, 1, 0, -1), order)
     ended = options + option(9, bytes([resolution]), order) + option(0, b"", order)
-    out += block(1, struct.pack(f"{order}HHI", link, 0, 0) + ended, order)
+    out += block(1, struct.pack(f"{order}HHI", link, 0, 0) + ended, order) * (max(numbers) + 1 if numbers else 1)
     for at, (stamp, data) in enumerate(packets):
         time = stamp * per_second // 10**9
         more = option(2, struct.pack(f"{order}I", flags[at]), order) + option(0, b"", order) if flags else b""
-        body = struct.pack(f"{order}IIIII", 0, time >> 32, time & 0xFFFFFFFF, len(data), len(data)) + data + bytes(-len(data) % 4) + more
+        number = numbers[at] if numbers else 0
+        body = struct.pack(f"{order}IIIII", number, time >> 32, time & 0xFFFFFFFF, len(data), len(data)) + data + bytes(-len(data) % 4) + more
         out += block(6, body, order)
     return out

@@ -18,6 +18,7 @@ import making_captures as making
 from captures import Capture, Packet, read_capture
 from common import EXAMPLES, TOOLS
 from headers import address_text
+from inputs import Input
 from tracesync.declaration import told_declaration
 
 A, B, C, D = "10.0.0.1", "10.0.0.2", "10.0.0.3", "10.0.0.4"
@@ -73,7 +74,7 @@ class Ends(unittest.TestCase):
         self.assertEqual(own(seen("a", (1, A, "224.0.0.1", 1), (2, "127.0.0.1", "127.0.0.1", 2), (3, A, "255.255.255.255", 3))), {"a": []})
 
     def test_exchanged_addresses_are_told(self) -> None:
-        captures = [type("It", (), {"host": host, "content": Capture([Packet(*it) for it in packets])}) for host, packets in (
+        captures = [Input(host, host, "", "capture", Capture([Packet(*it) for it in packets])) for host, packets in (
             ("x", [(3, 101, making.udp(A, B)), (100_000, 101, making.udp(B, A, ident=2))]),
             ("y", [(7, 101, making.udp(A, B)), (60_000, 101, making.udp(B, A, ident=2))]))]  # fmt: skip
         self.assertEqual(len(ends.exchanged(captures, {"hosts": {"x": {"addresses": [B]}, "y": {"addresses": [A]}}})), 2)

@@ -1,6 +1,7 @@
 """Replies and declarations are told, and refusals by what is mostly their cause."""
 
 import os
+import subprocess
 import tempfile
 import unittest
 from typing import Any
@@ -8,7 +9,7 @@ from xml.etree import ElementTree
 
 import making_captures as making
 from chain_picture import chain_svg
-from common import EXAMPLES
+from common import EXAMPLES, PROGRAM
 from contradiction import Contradiction
 from explaining import Explainer
 from healing import told_cycle
@@ -72,6 +73,7 @@ class Replies(unittest.TestCase):
              "3 messages among 9 events; 1 without another end; 2 keys are sent and received, and never within the window"),
             ("report", '{"alone":0,"ambiguous":[],"consistent":true,"events":6,"messages":3,"nokey":{},"unmatched":0}', "3 messages among 6 events"),
             ("report", '{"ambiguous":[],"consistent":true,"events":3,"messages":1,"nokey":{"short":1,"side":0},"unmatched":0}', "1 message among 3 events; 1 captured too short"),
+            ("report", '{"ambiguous":[],"consistent":true,"events":9,"messages":0,"nokey":{"interface":9,"side":0},"unmatched":0}', "0 messages among 9 events; 9 of other interfaces than their label names"),
             ("add a x", "added events 1 messages 0 withdrawn 0 pending 0 passed 3 consistent",
              "a has 1 events more, 0 messages were found, 3 packets under a are no events; what was declared can be true of all this"),
             ("add a x", "added events 1 messages 0 withdrawn 0 pending 7 consistent", "a has 1 events more, 0 messages were found, the last 7 bytes are no whole packet and wait for their rest; what was declared can be true of all this"),
@@ -206,6 +208,43 @@ class Declarations(unittest.TestCase):
             "p: a log taken at a and stamped by its first clock, a1.", "q: a log taken at a and stamped by a2.", "by the clock a2.",
         ):  # fmt: skip
             self.assertIn(wanted, told.split("\n") if wanted[-1] == "." and ":" in wanted[:3] else told)
+
+    def test_labels_tell_where_they_were_taken(self) -> None:
+        label = {"host": "n", "kind": "capture"}
+        cases = (
+            (label, "x: a capture taken at n."), ({**label, "segment": "lan"}, "x: a capture taken at n; its messages are those of the segment lan."),
+            ({**label, "interface": 2}, "x: a capture taken at n; only packets of the interface 2 have keys."),
+            ({**label, "addresses": ["10.0.0.1"], "beyond": ["10.3.0.0/16"], "clock": "m"},
+             "x: a capture taken at n and stamped by m; near it is 10.0.0.1, and no other address of the same version; beyond it are 10.3.0.0/16."),
+            ({**label, "beyond6": ["fd00:0:0:0:0:0:0:1"]}, "x: a capture taken at n; beyond it is fd00:0:0:0:0:0:0:1."),
+        )  # fmt: skip
+        for value, wanted in cases:
+            told = self.told(hosts={"n": {}}, labels={"x": value}).split("\n")
+            self.assertIn(wanted, told)
+            self.assertEqual("NO ADDRESS" in "".join(told), not {"addresses", "beyond", "beyond6"} & set(value))
+
+    def test_refusals_of_labels_name_what_is_wrong(self) -> None:
+        label, packets = '[hosts.a]\n[labels.x]\nhost = "a"\n', 'kind = "capture"\n'
+        cases = (
+            ('kind = "log"\nsegment = "lan"\nbeyond = []\ninterface = 1\n', 2, "a log has no packets, and so none of beyond, interface"),
+            (packets + "place = 1\n", 2, "no such key: place"), (packets + "interface = [1]\n", 3, "but for interface, a number"),
+            (packets + 'segment = "a b"\n', 4, "segment = 'a b' is no name"), (packets + "interface = 4294967296\n", 5, "interface = 4294967296 is not from 0"),
+            (packets + f"beyond = {[f'10.0.{it // 256}.{it % 256}' for it in range(257)]}\n".replace("'", '"'), 5, "it has 257 subnets, and 256 are the most"),
+            (packets + 'beyond = ["10.0.0.1/24"]\n', 6, "10.0.0.1/24 is no address or subnet such as 10.0.0.1 or 10.0.0.0/24"),
+            (packets + 'addresses = ["10.0.0.0/33"]\n', 6, "10.0.0.0/33 is no"), (packets + 'addresses = ["10.0.0.0/08"]\n', 6, "10.0.0.0/08 is no"),
+            (packets + 'beyond6 = ["fd00::/64"]\n', 6, "fd00::/64 is no address or subnet such as fd00:"),
+            (packets + 'addresses6 = ["fd00:0:0:0:0:0:0:0/129"]\n', 6, "fd00:0:0:0:0:0:0:0/129 is no"),
+            (packets + 'beyond = ["10.0.0.1", "10.0.0.1/32"]\n', 6, "10.0.0.1/32 is there twice"),
+            (packets + 'addresses = ["0.0.0.0/0"]\nbeyond = ["0.0.0.0/0"]\n', 9, "0.0.0.0/0 is both near and beyond"),
+        )  # fmt: skip
+        for text, number, wanted in cases:
+            with tempfile.NamedTemporaryFile("w", suffix=".toml") as it:
+                it.write(label + text)
+                it.flush()
+                self.assertIn(f", line 2: label x: {wanted}" if not wanted.startswith("but") else wanted, declaration.refused(it.name, number, "labels", 1))
+                if PROGRAM:
+                    ran = subprocess.run([PROGRAM, "session", it.name], input="", capture_output=True, text=True)
+                    self.assertEqual(ran.stdout, f"declaration {number} labels 1\n", text)
 
     def test_refusals_name_the_table_and_its_line(self) -> None:
         cases = (

@@ -67,8 +67,8 @@ class Formats(unittest.TestCase):
 
     def test_reasons_without_a_key(self) -> None:
         causes = {it.lower() for row in rows("At", "Cause", "Where") for it in row[1].split(", ")}
-        # (that a row of a log is local, and that no end of a packet is the host's, stand in the text behind the table)
-        self.assertEqual(set(words.REASONS), causes | {"local", "side"})
+        # (that a row of a log is local, and that a packet is of another interface, or has no side, stand in the text behind the table)
+        self.assertEqual(set(words.REASONS), causes | {"interface", "local", "side"})
 
 
 if __name__ == "__main__":

@@ -2,9 +2,11 @@
 
 import unittest
 from collections.abc import Iterable
+from dataclasses import replace
 from typing import Any
 
 import making_captures as making
+import making_networks as net
 from captures import Blocks, Capture, classic
 from inputs import Input
 from logs import Log
@@ -56,13 +58,33 @@ class NoMessages(unittest.TestCase):
         packets = conversation(LEFT, RIGHT, making.COOKED2)
         again = [(stamp, data[:4] + (7).to_bytes(4, "big") + data[8:]) for stamp, data in packets]
         files = [capture("a", making.pcapng(packets + again[:18], making.COOKED2)), capture("b", making.classic(conversation(LEFT, RIGHT)))]
-        self.assertIn("18 packets are there more than once, on the interfaces 2, 7, so their keys are ambiguous: keep one of them: "
-                      "tshark -r a.pcap -Y 'sll.ifindex == 2' -w a-one.pcapng", told(files, declared(a=[LEFT], b=[RIGHT])))  # fmt: skip
+        tables = declared(a=[LEFT], b=[RIGHT])
+        self.assertIn("18 packets are there more than once, on the interfaces 2, 7, so their keys are ambiguous: write interface = 2 below "
+                      "[labels.a] of hosts.toml, or another one of these", told(files, tables))  # fmt: skip
+        tables["labels"]["a"]["interface"] = 7
+        self.assertNotIn("more than once", told(files, tables))
 
     def test_once_on_each_of_two_interfaces_is_not_twice(self) -> None:
         packets = conversation(LEFT, RIGHT, making.COOKED2)
         mixed = [(stamp, data[:4] + (k % 2).to_bytes(4, "big") + data[8:]) for k, (stamp, data) in enumerate(packets)]
         self.assertNotIn("more than once", told([capture("a", making.pcapng(mixed, making.COOKED2))], declared(a=[LEFT])))
+
+    def test_labels_that_packets_pass_by_need_segments(self) -> None:
+        places = net.behind(net.E1)
+        net.converse(places)
+        files = [replace(capture(it.label.split("@")[0], making.classic(it.records)), host=it.label.split("@")[-1]) for it in places]
+        tables = declared(a=[net.E1], f=[RIGHT], n=[])
+        tables["labels"] = {it.label: {"host": it.host, "kind": "capture"} for it in files}
+        tables["labels"]["n_lan"]["beyond"] = [net.E1]
+        tables["labels"]["n_wan"]["beyond"] = [RIGHT]
+        self.assertIn('each side needs a segment of its own in hosts.toml: segment = "a-n" at a and n_lan; segment = "n-f" at f and n_wan.', told(files, tables))
+        for label, name in (("a", "x"), ("n_lan", "x"), ("n_wan", "y"), ("f", "y")):
+            tables["labels"][label]["segment"] = name
+        self.assertNotIn("segment", told(files, tables))
+        self.assertNotIn("the other way", told(files, tables))
+        tables["labels"]["n_wan"]["beyond"] = [net.E1]
+        self.assertIn("n_wan: 20 packets are declared to go the other way than the captures show (this host has the same packets at two places, and they came in "
+                      f"where they were seen first): {RIGHT} should be beyond it", told(files, tables))  # fmt: skip
 
     def test_captured_too_short(self) -> None:
         files = [capture(host, making.classic([(stamp, data[:44]) for stamp, data in conversation(LEFT, RIGHT)])) for host in ("a", "b")]
