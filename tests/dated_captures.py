@@ -4,12 +4,12 @@
     tests/dated_captures.py
 
 Each packet must stand there once, in the order of the reply to `merge` of a session over the same script, with both its
-lengths, under the interface of its label and its link type; an interface has its label's name, its host, its clock and
-the bounds of that, and counts ns. A stamp must be the date that the session gives: that of the first event, by `time`
-where its clock's source tells it and else by its own stamp, and what `merge` has between the two, rounded down to ns.
-Where capinfos and tshark are installed, they must count and stamp the packets in the same way. PROGRAM names the
-program, else it is the one that is built here. Prints a line for each case, and with status 1 the first one that is
-otherwise.
+lengths, under the interface of its label and its link type, with a comment that names its event and the stamp of that
+in the session's problem; an interface has its label's name, its host, its clock and the bounds of that, and counts ns.
+A stamp must be the date that the session gives: that of the first event, by `time` where its clock's source tells it
+and else by its own stamp, and what `merge` has between the two, rounded down to ns. Where capinfos and tshark are
+installed, they must count, stamp and comment the packets in the same way. PROGRAM names the program, else it is the one
+that is built here. Prints a line for each case, and with status 1 the first one that is otherwise.
 """
 
 import struct
@@ -46,6 +46,16 @@ class Packet:
 
 
 @dataclass(frozen=True)
+class Written:
+    """A packet as it is written: the number of its interface, its stamp, the packet, and its options by code."""
+
+    interface: int
+    stamp: int
+    packet: Packet
+    options: dict[int, bytes]
+
+
+@dataclass(frozen=True)
 class Interface:
     """An interface: its link type, the bytes that are captured at most, and its options by code."""
 
@@ -79,12 +89,12 @@ def blocks_of(data: bytes) -> list[tuple[int, bytes]]:
     return found
 
 
-def file_of(data: bytes) -> tuple[list[Interface], list[tuple[int, int, Packet]]]:
-    """The interfaces of a file of one section, and its packets, each with the number of its interface and its stamp."""
+def file_of(data: bytes) -> tuple[list[Interface], list[Written]]:
+    """The interfaces of a file of one section, and its packets."""
     (first, head), *rest = blocks_of(data)
     assert first == 0x0A0D0D0A and head == struct.pack("<IHHq", 0x1A2B3C4D, 1, 0, -1), head
     interfaces: list[Interface] = []
-    packets: list[tuple[int, int, Packet]] = []
+    packets: list[Written] = []
     for kind, body in rest:
         if kind == 1:
             link, _, snaplen = struct.unpack_from("<HHI", body)
@@ -93,7 +103,8 @@ def file_of(data: bytes) -> tuple[list[Interface], list[tuple[int, int, Packet]]
             assert kind == 6, kind
             number, high, low, kept, length = struct.unpack_from("<IIIII", body)
             packet = Packet(interfaces[number].link, kept, length, body[20 : 20 + kept])
-            packets.append((number, high << 32 | low, packet))
+            options = options_of(body[20 + kept + -kept % 4 :])
+            packets.append(Written(number, high << 32 | low, packet, options))
     return interfaces, packets
 
 
@@ -139,13 +150,19 @@ def described(declaration: str, label: str, link: int) -> Interface:
     return Interface(link, 0, {2: label.encode(), 3: description(declaration, label).encode(), 9: b"\x09"})
 
 
-def start_of(declaration: str, lines: Sequence[str], first: str) -> Fraction:
+def stamps_of(declaration: str, lines: Sequence[str]) -> dict[str, int]:
+    """The stamp of each event in ns, as the problem of a session has it."""
+    problem = answered(declaration, [*lines, "problem"])[-1]
+    events = [line.split(" ") for line in problem if line.startswith("event ")]
+    return {name: int(stamp) for _, name, _, stamp, *_ in events}
+
+
+def start_of(declaration: str, lines: Sequence[str], first: str, stamp: int) -> Fraction:
     """The date of the first event in ns: the least end of its time by the source, or its own stamp."""
-    *_, time, problem = answered(declaration, [*lines, f"time {first}", "problem"])
-    words = time[0].split(" ")
+    words = answered(declaration, [*lines, f"time {first}"])[-1][0].split(" ")
     if words[0] == "time" and words[1] != "-inf":
         return Fraction(words[1])
-    return Fraction(next(line.split(" ")[3] for line in problem if line.startswith(f"event {first} ")))
+    return Fraction(stamp)
 
 
 def merges(folder: str, case: str, declaration: str, lines: Sequence[str], is_shown: bool = True) -> None:
@@ -156,7 +173,8 @@ def merges(folder: str, case: str, declaration: str, lines: Sequence[str], is_sh
     merged = [line.split(" ") for line in answered(declaration, [*lines, "merge"])[-1][1:]]
     times = {event: Fraction(time) for time, event, *_ in merged}
     first = merged[0][1]
-    shift = start_of(declaration, lines, first) - times[first]
+    stamps = stamps_of(declaration, lines)
+    shift = start_of(declaration, lines, first, stamps[first]) - times[first]
     packets: dict[str, Packet] = {}
     for _, label, path in (line.split(" ") for line in lines):
         packets |= {f"{label}#{n}": packet for n, packet in enumerate(captured(read(path)), 1)}
@@ -164,22 +182,29 @@ def merges(folder: str, case: str, declaration: str, lines: Sequence[str], is_sh
     under = {event: (event.split("#")[0], packets[event].link) for event in order}
     taps = sorted(set(under.values()))
     interfaces, written = file_of(done.stdout)
-    wanted = [(taps.index(under[event]), (times[event] + shift) // 1, packets[event]) for event in order]
+    said = {event: {1: f"tracesync {event} stamp {stamps[event]}".encode()} for event in order}
+    wanted = [
+        Written(taps.index(under[event]), (times[event] + shift) // 1, packets[event], said[event]) for event in order
+    ]
     assert written == wanted, (case, "other packets", written[:2], wanted[:2])
     assert interfaces == [described(declaration, *tap) for tap in taps], (case, interfaces)
     if is_shown:
         read_again(case, write(f"{folder}/merged.pcapng", done.stdout), written)
-    print(f"{case}: {len(written)} packets under {len(interfaces)} interfaces, from {written[0][1]} ns on")
+    print(f"{case}: {len(written)} packets under {len(interfaces)} interfaces, from {written[0].stamp} ns on")
 
 
-def read_again(case: str, path: str, written: Sequence[tuple[int, int, Packet]]) -> None:
+def read_again(case: str, path: str, written: Sequence[Written]) -> None:
     """Wants capinfos and tshark to read what was written, where they are installed."""
     if not is_there("capinfos", "tshark"):
         return
     assert packets_of(path) == len(written), (case, "capinfos counts others")
-    fields = ("-e", "frame.interface_id", "-e", "frame.time_epoch", "-e", "frame.len", "-e", "frame.cap_len")
-    told = tool("tshark", "-r", path, "-T", "fields", *fields)
-    lines = [f"{number}\t{at // 10**9}.{at % 10**9:09}\t{it.length}\t{it.kept}" for number, at, it in written]
+    fields = ("frame.interface_id", "frame.time_epoch", "frame.len", "frame.cap_len", "frame.comment")
+    told = tool("tshark", "-r", path, "-T", "fields", *(word for it in fields for word in ("-e", it)))
+    lines: list[str] = []
+    for it in written:
+        seconds, ns = divmod(it.stamp, 10**9)
+        comment = it.options[1].decode()
+        lines.append(f"{it.interface}\t{seconds}.{ns:09}\t{it.packet.length}\t{it.packet.kept}\t{comment}")
     assert told.splitlines() == lines, (case, "tshark reads something else")
 
 

@@ -25,7 +25,7 @@ from dataclasses import dataclass
 from support.program import TOP, program, read
 from support.tree import copy_tree
 
-DOCUMENTS = ("README.md", "docs/GUIDE.md", "docs/LOGS.md", "docs/PROBLEMS.md")
+DOCUMENTS = ("README.md", "docs/GUIDE.md", "docs/VANTAGE.md", "docs/LOGS.md", "docs/PROBLEMS.md")
 # How long a command may take.
 SECONDS = 120
 

@@ -5,17 +5,19 @@
 
 Each certificate that `prove` replies is given to `verify` with the reply to `problem`, which must print `yes`. The
 merge has a line for each event, in the order of the times; with the report's numbers each event is counted once; an
-event's time by the source has ends in their order. PROGRAM names the program, else it is the one that is built here.
-It ends with status 1 where something is otherwise.
+event's time by the source has ends in their order. The captures that a script makes are those that are kept. PROGRAM
+names the program, else it is the one that is built here. It ends with status 1 where something is otherwise.
 """
 
 import argparse
 import json
+import os
 import subprocess
 import sys
 import tempfile
 from dataclasses import dataclass
 from fractions import Fraction
+from functools import partial
 
 from support.program import TOP, program, read, write
 from support.replies import answered, script_of
@@ -53,6 +55,8 @@ EXAMPLES = [
         ("second#1", "second#5", "gate#1"),
     ),
     Example("timeline", [("db#1", "app#4"), ("gate#1", "db#4")], ("gate#2", "db#1", "app#7")),
+    Example("vantage", [("a#1", "f#1"), ("f#8", "n-lan#2"), ("n-wan#3", "n-lan#3")], (), "nat.toml", "nat.txt"),
+    Example("vantage", [("k1#1", "k2#1"), ("k2#8", "k1#2")], (), "pods.toml", "pods.txt"),
 ]
 
 
@@ -96,13 +100,24 @@ def check(example: Example) -> None:
     print(f"{example.folder}: {found}")
 
 
+def check_made() -> None:
+    """Wants the captures of examples/vantage to be those that make.py there writes."""
+    with tempfile.TemporaryDirectory() as folder:
+        subprocess.run([sys.executable, f"{TOP}/examples/vantage/make.py", folder], check=True)
+        made = sorted(os.listdir(folder))
+        for name in made:
+            assert read(f"{folder}/{name}") == read(f"{TOP}/examples/vantage/{name}"), f"make.py writes another {name}"
+    print(f"vantage: {len(made)} captures as they are made")
+
+
 def main() -> int:
     argparse.ArgumentParser(description=__doc__.split("\n\n")[0]).parse_args()
-    for example in EXAMPLES:
+    checks = [(it.folder, partial(check, it)) for it in EXAMPLES]
+    for folder, wanted in [*checks, ("vantage", check_made)]:
         try:
-            check(example)
+            wanted()
         except (AssertionError, RuntimeError) as why:
-            print(f"{example.folder}: {why}")
+            print(f"{folder}: {why}")
             return 1
     return 0
 

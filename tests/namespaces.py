@@ -51,13 +51,16 @@ from enum import Enum
 from random import Random
 
 from support.captures import classic, frame
-from support.network import ADDRESSES, HOSTS, QUIET, Network, Record, Shares
-from support.problems import UNITS, Problem, units_of
+from support.conversations import Address, ask, bound, serve
+from support.kinds import BARE, EXTENDED, OVER_IPV6, kind_of
+from support.network import ADDRESSES, HOSTS, Network, Shares
+from support.problems import Problem, is_outside
 from support.program import LEFT, program, write
 from support.replies import answered
+from support.spaces import QUIET, Record, within
 
-# How long a socket waits, and how long the box waits for a frame at a time, in seconds.
-PATIENCE, WAIT = 30, 0.01
+# How long the box waits for a frame at a time, in seconds.
+WAIT = 0.01
 # What the clock of `b` may be off, in ns and in parts per billion.
 MOST_OFFSET, MOST_RATE = 4 * 3600 * 10**9, 40_000
 # How wrong a stamp is that has to be found out, in ns.
@@ -90,20 +93,16 @@ host = "{0}"
 kind = "capture"
 """
 LINK = '[[links]]\nfrom = "{}"\nto = "{}"\nleast = 1\n'
-OVER_IPV6, BARE = "TCP over IPv6", "TCP over IPv4 without an identification"
 # What has keys that come again, in their case.
 AGAIN = "UDP over IPv4"
 # What is known by too little without the words.
 ASSUMED = (OVER_IPV6, BARE)
 # What has a key with the words alone, and is one message each where nothing is lost.
-EXTENDED = "UDP over IPv6 behind extension headers"
 APART = ("fragments over IPv4", "fragments over IPv6", EXTENDED)
-EXTENSIONS, FRAGMENT = (0, 43, 60), 44
 COUNTS = ("packets", "possible", "messages", "false", "ambiguous")
 
 Captures = dict[str, list[Record]]  # by host
 Pairs = list[tuple[str, str]]  # sends and receives
-Turns = Sequence[tuple[int, int]]  # how many bytes are asked, and how many are answered
 
 
 class Words(Enum):
@@ -168,33 +167,6 @@ class Found:
         return wrong
 
 
-def serve(listener: socket.socket, turns: Turns) -> None:
-    """Answers each question of a connection by so many bytes."""
-    with listener, listener.accept()[0] as connection:
-        connection.settimeout(PATIENCE)
-        for question, answer in turns:
-            receive(connection, question)
-            connection.sendall(bytes(answer))
-
-
-def ask(connection: socket.socket, address: tuple[str, int], turns: Turns) -> None:
-    """Asks each question of so many bytes, and reads the answer."""
-    with connection:
-        connection.connect(address)
-        for question, answer in turns:
-            connection.sendall(bytes(question))
-            receive(connection, answer)
-
-
-def receive(connection: socket.socket, count: int) -> None:
-    """Reads so many bytes. Raises ConnectionError where they do not come."""
-    while count:
-        part = len(connection.recv(min(count, 65_536)))
-        if not part:
-            raise ConnectionError("a connection ended early")
-        count -= part
-
-
 def throw(ends: Sequence[socket.socket], draw: Random, count: int, sizes: range) -> None:
     """Sends datagrams from both ends, each with other first bytes."""
     with ends[0], ends[1]:
@@ -217,18 +189,14 @@ def repeat(ends: Sequence[socket.socket], raws: Sequence[socket.socket], draw: R
             time.sleep(BETWEEN / KEYS)
 
 
-def bound(network: Network, host: str, family: int, kind: int) -> tuple[socket.socket, tuple[str, int]]:
+def bound_at(network: Network, host: str, family: int, kind: int) -> tuple[socket.socket, Address]:
     """A socket of a host, and its address."""
-    with network.within(network.spaces[host]):
-        found = socket.socket(family, kind)
-    found.settimeout(PATIENCE)
-    found.bind((ADDRESSES[family][host], 0))
-    return found, found.getsockname()[:2]
+    return bound(network.spaces[host], ADDRESSES[family][host], family, kind)
 
 
 def joined(network: Network, family: int, has_headers: bool) -> list[socket.socket]:
     """Both ends of a conversation by datagrams, with or without extension headers."""
-    (one, here), (two, there) = (bound(network, host, family, socket.SOCK_DGRAM) for host in HOSTS)
+    (one, here), (two, there) = (bound_at(network, host, family, socket.SOCK_DGRAM) for host in HOSTS)
     one.connect(there)
     two.connect(here)
     for it in (one, two) if has_headers else ():
@@ -246,9 +214,9 @@ def talk(pool: ThreadPoolExecutor, network: Network, draw: Random) -> list[Futur
             much = [(draw.randrange(60_000, 90_000), 1)]
             many = [(draw.randrange(1, 600), draw.randrange(1, 5000)) for _ in range(20)]
             for turns in (much, many):
-                listener, address = bound(network, other, family, socket.SOCK_STREAM)
+                listener, address = bound_at(network, other, family, socket.SOCK_STREAM)
                 listener.listen()
-                connection, _ = bound(network, host, family, socket.SOCK_STREAM)
+                connection, _ = bound_at(network, host, family, socket.SOCK_STREAM)
                 begun += [pool.submit(serve, listener, turns), pool.submit(ask, connection, address, turns)]
         for count, sizes in (FEW, WIDE):
             begun.append(pool.submit(throw, joined(network, family, False), Random(draw.random()), count, sizes))
@@ -260,7 +228,7 @@ def talk_again(pool: ThreadPoolExecutor, network: Network, draw: Random) -> list
     """Begins a conversation by datagrams over IPv4 whose keys come again."""
     raws = []
     for host in HOSTS:
-        with network.within(network.spaces[host]):
+        with within(network.spaces[host]):
             raws.append(socket.socket(socket.AF_INET, socket.SOCK_RAW, socket.IPPROTO_RAW))
     return [pool.submit(repeat, joined(network, socket.AF_INET, False), raws, draw)]
 
@@ -281,30 +249,6 @@ def captured(network: Network, case: Case, draw: Random) -> Captures:
     offset, rate = draw.randint(-MOST_OFFSET, MOST_OFFSET), draw.randint(-MOST_RATE, MOST_RATE)
     taken["b"] = [replace(it, stamp=it.time + offset + (it.time - first) * rate // 10**9) for it in taken["b"]]
     return {host: [it for it in taken[host] if draw.random() >= case.dropped] for host in HOSTS}
-
-
-def behind(frame: bytes) -> int:
-    """The number of what stands behind the extension headers of a frame of IPv6, or of that of a fragment."""
-    number, at = frame[20], 54
-    while number in EXTENSIONS:
-        number, at = frame[at], at + 8 * (frame[at + 1] + 1)
-    return number
-
-
-def kind_of(frame: bytes) -> str:
-    """The protocols of a frame; of one that is no message, an empty text."""
-    family = {b"\x08\x00": "IPv4", b"\x86\xdd": "IPv6"}.get(frame[12:14])
-    if family is None:
-        return ""
-    number = behind(frame) if family == "IPv6" else frame[23]
-    protocol = {6: "TCP", 17: "UDP"}.get(number)
-    if number == FRAGMENT or (family == "IPv4" and int.from_bytes(frame[20:22], "big") & 0x3FFF):
-        return f"fragments over {family}"
-    if (protocol, family, frame[18:20]) == ("TCP", "IPv4", bytes(2)):
-        return BARE
-    if protocol and family == "IPv6" and frame[20] in EXTENSIONS:
-        return EXTENDED
-    return f"{protocol} over {family}" if protocol else ""
 
 
 def declaration(words: Words, ahead: int) -> str:
@@ -363,15 +307,9 @@ def judge(folder: str, captures: Captures, words: Words, ahead: int = 0) -> Foun
         found.ambiguous.update(kinds[name] for name in it["sends"] + it["receives"])
     found.contradictions = int(not added[0].endswith(" consistent"))
     truths = [records[receive].time - records[send].time for send, receive in pairs]
-    found.outside = 0 if found.contradictions else sum(map(is_outside, intervals, truths))
+    wrong = (is_outside(reply[0], truth) for reply, truth in zip(intervals, truths))
+    found.outside = 0 if found.contradictions else sum(wrong)
     return found
-
-
-def is_outside(reply: Sequence[str], truth: int) -> bool:
-    """Whether an interval has not this number of ns."""
-    _, least, greatest = reply[0].split(" ")
-    is_below = least != "-inf" and truth * UNITS < units_of(least)
-    return is_below or (greatest != "+inf" and units_of(greatest) < truth * UNITS)
 
 
 def missed(folder: str, captures: Captures) -> list[str]:

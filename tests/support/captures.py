@@ -6,7 +6,9 @@ from collections.abc import Iterable
 
 # The first four bytes of a classic capture that counts in ns.
 NANOSECONDS = 0xA1B23C4D
-SNAPLEN, ETHERNET = 262_144, 1
+SNAPLEN, ETHERNET, COOKED = 262_144, 1, 276
+# The type of a frame with a tag (IEEE 802.1Q).
+TAGGED = b"\x81\x00"
 # The bytes that a record of each form has around its frame; a block's frame is filled up to four bytes.
 AROUND_RECORD, AROUND_BLOCK = 16, 32
 SECTION = struct.pack("<IIIHHqI", 0x0A0D0D0A, 28, 0x1A2B3C4D, 1, 0, -1, 28)
@@ -16,9 +18,9 @@ INTERFACE = struct.pack("<IIHHIHHB3xII", 1, 32, ETHERNET, 0, SNAPLEN, 9, 1, 9, 0
 Frames = Iterable[tuple[int, bytes]]  # stamps in ns, and frames
 
 
-def classic_head(order: str = "<", magic: int = NANOSECONDS) -> bytes:
-    """The head of a classic capture of Ethernet."""
-    return struct.pack(order + "IHHiIII", magic, 2, 4, 0, 0, SNAPLEN, ETHERNET)
+def classic_head(order: str = "<", magic: int = NANOSECONDS, link: int = ETHERNET) -> bytes:
+    """The head of a classic capture of Ethernet, or of another link type."""
+    return struct.pack(order + "IHHiIII", magic, 2, 4, 0, 0, SNAPLEN, link)
 
 
 def classic_record(stamp: int, frame: bytes, order: str = "<") -> bytes:
@@ -26,22 +28,33 @@ def classic_record(stamp: int, frame: bytes, order: str = "<") -> bytes:
     return struct.pack(order + "IIII", stamp // 10**9, stamp % 10**9, len(frame), len(frame)) + frame
 
 
-def classic(frames: Frames, order: str = "<", magic: int = NANOSECONDS) -> bytes:
-    """A classic capture of Ethernet."""
-    return classic_head(order, magic) + b"".join(classic_record(stamp, frame, order) for stamp, frame in frames)
+def classic(frames: Frames, order: str = "<", magic: int = NANOSECONDS, link: int = ETHERNET) -> bytes:
+    """A classic capture of Ethernet, or of another link type."""
+    return classic_head(order, magic, link) + b"".join(classic_record(stamp, frame, order) for stamp, frame in frames)
 
 
-def block(stamp: int, frame: bytes) -> bytes:
-    """An enhanced packet block of the first interface."""
+def block(stamp: int, frame: bytes, number: int = 0) -> bytes:
+    """An enhanced packet block of the first interface, or of another one."""
     padding = -len(frame) % 4
     size = AROUND_BLOCK + len(frame) + padding
-    head = struct.pack("<IIIIIII", 6, size, 0, stamp >> 32, stamp & 0xFFFFFFFF, len(frame), len(frame))
+    head = struct.pack("<IIIIIII", 6, size, number, stamp >> 32, stamp & 0xFFFFFFFF, len(frame), len(frame))
     return head + frame + bytes(padding) + struct.pack("<I", size)
 
 
 def blocks(frames: Frames) -> bytes:
     """A capture in pcapng of one section and one interface of Ethernet."""
     return SECTION + INTERFACE + b"".join(block(stamp, frame) for stamp, frame in frames)
+
+
+def untagged(frame: bytes) -> bytes:
+    """A frame of Ethernet without its tag, if it has one."""
+    return frame[:12] + frame[16:] if frame[12:14] == TAGGED else frame
+
+
+def cooked(frame: bytes, index: int, goes_out: bool) -> bytes:
+    """A frame of Ethernet as it stands in a capture of all interfaces (LINKTYPE_LINUX_SLL2), without its tag."""
+    bare = untagged(frame)
+    return bare[12:14] + struct.pack(">HIHBB", 0, index, 1, 4 if goes_out else 0, 6) + bare[6:12] + bytes(2) + bare[14:]
 
 
 def udp(word: bytes, ports: tuple[int, int] = (7, 9)) -> bytes:

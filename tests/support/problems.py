@@ -33,6 +33,13 @@ def interval(ends: Ends) -> str:
     return f"{ns(ends[0], '-inf')} {ns(ends[1])}"
 
 
+def is_outside(reply: str, truth: int) -> bool:
+    """Whether the interval of a reply has not this number of ns."""
+    _, least, greatest = reply.split(" ")
+    is_below = least != "-inf" and truth * UNITS < units_of(least)
+    return is_below or (greatest != "+inf" and units_of(greatest) < truth * UNITS)
+
+
 def order(ends: Ends) -> str:
     """The word for the order of two events that the ends between them tell."""
     least, greatest = ends
@@ -135,7 +142,7 @@ class Answers:
                 self.bounds += [problem.span(kind, name, str(low), str(high)) for kind in ("span-most", "span-least")]
         for event in problem.events:
             self.bounds += [problem.stamped(kind, event) for kind in ("late", "early")]
-        for earlier, s in problem.readings:
+        for earlier, s in problem.readings if problem.follows else ():
             for later, t in problem.readings:
                 if problem.comes_after(later, earlier):
                     self.bounds.append(problem.follow(earlier, str(s), later, str(t)))
@@ -162,7 +169,8 @@ class Answers:
         found, risen = {start: 0}, True
         while risen:
             risen = False
-            for tail, head, weight in self.bounds:
+            # (forth and back, since spans lead both ways along a clock)
+            for tail, head, weight in (*self.bounds, *reversed(self.bounds)):
                 if tail in found and (head not in found or found[head] > found[tail] + weight):
                     found[head], risen = found[tail] + weight, True
         return found
