@@ -3,9 +3,10 @@
 
     tests/hostile_declarations.py [CHANGES [SEED]]
 
-There are declarations made by hand, most of them with tables of clocks, at their limits and one past them; each of
-them that is small is also cut at each byte. Then come CHANGES documents, 2000 if it is not said, each of which is a
-small one with bytes, numbers, names or lines changed at random, by SEED, 1 if it is not said. A plain reader of
+There are declarations made by hand, most of them with tables of clocks, or with labels that say where a trace was
+taken, at their limits and one past them; each of them that is small is also cut at each byte. There are labels with any
+two faults, and with any two subnets, on each side. Then come CHANGES documents, 2000 if it is not said, each of which
+is a small one with bytes, numbers, names or lines changed at random, by SEED, 1 if it is not said. A plain reader of
 declarations works out what each document declares, or its first fault. Over a document with a fault a session must
 end with status 3 and print that fault; over any other one a row is added to each label and a message to each link,
 and the problem must be the one that the reader has. Nothing may be said on the standard error, and no run may take 5
@@ -17,13 +18,16 @@ answer.
 """
 
 import collections
+import itertools
 import re
 import sys
 import tempfile
-from collections.abc import Iterator
+from collections.abc import Iterable, Iterator
 from random import Random
 
-from support.declarations import CLOCK_KEYS, ENTRIES, HOST_KEYS, LARGEST, Declared, read_declaration
+from support.declarations import (
+    CAPTURE_KEYS, CLOCK_KEYS, ENTRIES, HOST_KEYS, LARGEST, SUBNET_KEYS, SUBNETS, Declared, read_declaration,
+)  # fmt: skip
 from support.hostile import (
     NANOS, Folder, Language, Outcome, Source, arguments, change_number, change_word, changes, copy_in, cut_out, cuts,
     move_line, put_byte, put_line, put_sign,
@@ -56,7 +60,8 @@ def session(declared: Declared) -> tuple[dict[str, int], str]:
             for label in (at[one], at[other]):
                 counts[label] += 1
                 ends.append((label, counts[label]))
-            is_message = declared.is_near(*(declared.labels[label][2] for label, _ in ends))
+            clocks_of = (declared.labels[label][2] for label, _ in ends)
+            is_message = declared.is_near(*clocks_of) and declared.is_one_segment(at[one], at[other])
             script |= {f"add {at[one]} send{key}": 0, f"add {at[other]} receive{key}": int(is_message)}
             messages += [(ends, bounds)] * is_message
     return script, problem_of(declared, counts, messages)
@@ -140,6 +145,45 @@ late = 5
 clocks = [{ name = "a1", offset = -3 }, { name = "a2", gap = 5, short = 7 }]
 [hosts.b]
 """
+# A document whose last table is a label behind one of a log, and keys with each fault that such a label may have.
+CAPTURE = """[hosts.a]
+addresses = ["10.0.0.1"]
+addresses6 = ["fd00:0:0:0:0:0:0:1"]
+[hosts.b]
+[[links]]
+from = "a"
+to = "b"
+[labels.one]
+host = "a"
+kind = "log"
+segment = "here"
+[labels.two]
+host = "b"
+"""
+FAULTS = [
+    "more = 1", 'beyond = "10.0.0.1"', "beyond = [1]", 'clock = "c"', 'segment = ""', "interface = -1",
+    f"interface = {1 << 32}", 'addresses = ["10.0.0.1/33"]', 'addresses6 = ["fd00:0:0:0:0:0:0:1/127"]',
+    'beyond = ["10.0.0.1", "10.0.0.1/32"]', 'beyond6 = ["::"]', 'addresses = ["10.0.0.0/8"]\nbeyond = ["10.0.0.0/8"]',
+    'addresses6 = ["0:0:0:0:0:0:0:0/0"]\nbeyond6 = ["0:0:0:0:0:0:0:0/0"]', 'addresses = [""]\nbeyond = [1.5]',
+]  # fmt: skip
+# First addresses of subnets, and what stands behind them, by whether they are of IPv6.
+FIRSTS = {
+    False: ("0.0.0.0", "128.0.0.0", "10.3.1.0", "10.3.1.1"),
+    True: ("0:0:0:0:0:0:0:0", "fd00:0:0:0:0:0:0:0", "1:2:3:4:5:6:7:8"),
+}
+BITS = {
+    False: ("", "/0", "/1", "/24", "/31", "/32", "/33"),
+    True: ("", "/0", "/1", "/8", "/33", "/125", "/126", "/127", "/128", "/129"),
+}
+MISSPELLED = [
+    "10.3.1.0/024", "10.3.1.0/+24", "10.3.1.0/-0", "10.3.1.0/ 24", "10.3.1.0 /24", "10.3.1.0/24 ", "10.3.1.0/24/24",
+    "10.3.1.0//24", "10.3.1.0/", "/24", "/", "", "10.3.1/24", "10.3.1.0.0/24", "10.03.1.0/24", "10.3.256.0/24",
+    "10.3.1.0/0x18", "10.3.1.0/2_4", "10.3.1.0/24.0", "10.3.1.0/255.255.255.0", "10.3.1.0/4294967320",
+    "10.3.1.0/18446744073709551640", "10.3.1.0/256", "10.3.1.0/\\u0662", "10.3.1.0\\u0000/24",
+    "10.3.1.0/24\\u0000", "fd00:0:0:0:0:0:0:0/8", "::/0", "0:0:0:0:0:0:0.0.0.0/0", "0:0:0:0:0:0:0/0",
+    "0:0:0:0:0:0:0:0:0/0", "0:0:0:0:0:0:0:00000/0", "0:0:0:0:0:0:0:g/0", "Fd00:0:0:0:0:0:0:0/08",
+    "Fd00:0:0:0:0:0:0:0/340282366920938463463374607431768211464",
+]  # fmt: skip
 
 
 def of_values() -> Iterator[tuple[str, str]]:
@@ -173,6 +217,84 @@ def of_names() -> Iterator[tuple[str, str]]:
         yield f"a host's name of {length}", f'[hosts.{name}]\nclocks = [{{ name = "x" }}]\n'
 
 
+def subnets(is_wide: bool) -> list[str]:
+    """Texts of subnets of a version, some with bits that they may not have."""
+    return [first + bits for first in FIRSTS[is_wide] for bits in BITS[is_wide]]
+
+
+def array(texts: Iterable[str]) -> str:
+    return "[" + ", ".join(f'"{it}"' for it in texts) + "]"
+
+
+def of_places() -> Iterator[tuple[str, str]]:
+    """Documents whose labels say where a trace was taken."""
+    capture = f'{CAPTURE}kind = "capture"\n'
+    for value in VALUES:
+        yield f"beyond6 = {value}", f"{capture}beyond6 = {value}\n"
+    for number in [*NUMBERS, (1 << 32) - 1, 1 << 32, (1 << 32) + 1]:
+        yield f"interface = {number}", f"{capture}interface = {number}\n"
+    for key, (_, is_wide) in SUBNET_KEYS.items():
+        for text in subnets(is_wide):
+            yield f"{key} of {text}", f'{capture}{key} = ["{text}"]\n'
+    for text in MISSPELLED:
+        yield f"addresses of {text!r}", f'{capture}addresses = ["{text}"]\n'
+        yield f"addresses6 of {text!r}", f'{capture}addresses6 = ["{text}"]\n'
+    for name in ("here", "there", "Here", "a", "", "h e", "n" * 32, "n" * 33, "\\u00e9"):
+        yield f"segment {name!r} of a log", f'{CAPTURE}kind = "log"\nsegment = "{name}"\n'
+        yield f"segment {name!r} of a capture", f'{capture}segment = "{name}"\n'
+
+
+def of_logs() -> Iterator[tuple[str, str]]:
+    """Documents of logs with keys of captures, and of labels with any two faults."""
+    for kind in ("log", "capture", "Log"):
+        label = f'{CAPTURE}kind = "{kind}"\n'
+        for key in CAPTURE_KEYS:
+            for value in ("[]", "0", '["10.0.0.1"]', "-1"):
+                yield f"{key} = {value} of a {kind}", f"{label}{key} = {value}\n"
+        for two in itertools.permutations(FAULTS, 2):
+            lines = "\n".join(two)
+            yield f"{lines!r} of a {kind}", f"{label}{lines}\n"
+
+
+def of_pairs() -> Iterator[tuple[str, str]]:
+    """Documents of labels with two subnets, on one side and on two."""
+    capture = f'{CAPTURE}kind = "capture"\n'
+    keys = [*SUBNET_KEYS]
+    for is_wide in (False, True):
+        near, beyond = (it for it in keys if SUBNET_KEYS[it][1] == is_wide)
+        for one, other in itertools.product(subnets(is_wide), repeat=2):
+            yield f"{near} of {one} and {other}", f"{capture}{near} = {array((one, other))}\n"
+            lines = f"{beyond} = {array([one])}\n{near} = {array([other])}\n"
+            yield f"{beyond} of {one}, {near} of {other}", capture + lines
+
+
+def of_many() -> Iterator[tuple[str, str]]:
+    """Documents of labels with as many subnets as there may be, and one more."""
+    capture = f'{CAPTURE}kind = "capture"\n'
+    texts = {
+        False: [f"10.{it >> 8}.{it & 255}.0/24" for it in range(999)],
+        True: [f"{it:x}:0:0:0:0:0:0:0/16" for it in range(999)],
+    }
+    for count in (SUBNETS - 1, SUBNETS, SUBNETS + 1, SUBNETS + 2, 999):
+        for key, (_, is_wide) in SUBNET_KEYS.items():
+            some = texts[is_wide][:count]
+            yield f"{count} {key}", f"{capture}{key} = {array(some)}\n"
+            yield f"{count} {key}, the last as the first", f"{capture}{key} = {array([*some[:-1], some[0]])}\n"
+            yield f"{count} {key}, the first misspelled", f"{capture}{key} = {array(['x', *some[1:]])}\n"
+            yield f"{count} {key}, the last misspelled", f"{capture}{key} = {array([*some[:-1], 'x'])}\n"
+            yield f"{count} {key} of a log", f'{CAPTURE}kind = "log"\n{key} = {array(some)}\n'
+        ends = [count * it // 4 for it in range(5)]
+        parts = [(key, texts[key.endswith("6")][ends[at] : ends[at + 1]]) for at, key in enumerate(SUBNET_KEYS)]
+        lines = [f"{key} = {array(some)}\n" for key, some in parts]
+        yield f"{count} subnets under all keys", capture + "".join(lines)
+        twins = [f"{key} = {array([*some[:-1], parts[at % 2][1][0]])}\n" for at, (key, some) in enumerate(parts)]
+        for at in range(4):
+            yield f"{count} subnets, one twice, at {at}", capture + "".join([*lines[:at], twins[at], *lines[at + 1 :]])
+        yield f"{count} subnets, some twice", capture + "".join(twins)
+    wide = [f"{1 << 15 >> it:x}:0:0:0:0:0:0:0/{it + 1}" for it in range(16)]
+    yield "subnets of each width", f"{capture}beyond6 = {array(wide)}\n"
+
+
 def of_shapes() -> Iterator[tuple[str, str]]:
     """Documents whose tables stand otherwise."""
     for more in MORE:
@@ -189,7 +311,12 @@ def of_shapes() -> Iterator[tuple[str, str]]:
 
 def small() -> dict[str, bytes]:
     """The small documents, by their titles."""
-    return {title: it.encode() for made in (of_values, of_names, of_shapes) for title, it in made()}
+    return {title: it.encode() for made in (of_values, of_names, of_places, of_shapes) for title, it in made()}
+
+
+def paired() -> dict[str, bytes]:
+    """The documents with two things that may go against each other, by their titles."""
+    return {title: it.encode() for made in (of_logs, of_pairs, of_many) for title, it in made()}
 
 
 def clocks(first: int, count: int, more: str = "") -> str:
@@ -215,6 +342,15 @@ def large() -> Iterator[tuple[str, str, str | None]]:
     labels = "".join(f'[labels.{it:x}]\nhost="zz"\nkind="log"\nclock="{ENTRIES - 1 - it:x}"\n' for it in range(ENTRIES))
     yield "65,536 labels of 65,536 clocks", f"[hosts.zz]\nclocks={clocks(0, ENTRIES)}\n{labels}", None
     all_but_one = clocks(0, ENTRIES - 1)[:-1]
+    of_subnets = array(f"{it}.0.0.0/8" for it in range(SUBNETS)).replace(" ", "")
+    label = f'host="zz"\nkind="capture"\nbeyond={of_subnets}\n'
+    in_labels = "".join(f"[labels.{it:x}]\n{label}" for it in range(1000))
+    yield f"1,000 labels of {SUBNETS} subnets", f"[hosts.zz]\n{in_labels}", None
+    of_segment = 'host="zz"\nkind="capture"\nsegment="{0:x}"\ninterface={0}\nbeyond=["{1}.{2}.0.0/16"]\n'
+    in_segments = "".join(
+        f"[labels.{it:x}]\n{of_segment.format(it, it >> 8, it & 255)}" for it in range(ENTRIES)
+    )
+    yield "65,536 labels of 65,536 segments", f"[hosts.zz]\n{in_segments}", None
     yield "the last clock has the first one's name", f"[hosts.zz]\nclocks={all_but_one},{{name='0'}}]\n", None
     yield "2^24 bytes", (CLOCKS + LABELS).ljust(LARGEST - 1) + "\n", None
     yield "2^24 + 1 bytes", (CLOCKS + LABELS).ljust(LARGEST) + "\n", None
@@ -241,7 +377,7 @@ def deep() -> Iterator[tuple[str, str, str]]:
 
 
 LANGUAGE = Language(
-    signs=b"[]{}=,.\"'#\n\r \t\\-_0123456789abxyn",
+    signs=b"[]{}=,./:\"'#\n\r \t\\-_0123456789abxyn",
     numbers=NUMBERS,
     number=re.compile(rb"-?\d+"),
     word=re.compile(rb"""["'.\[ ]([A-Za-z0-9]+)["'\] ]"""),
@@ -261,17 +397,20 @@ def main() -> int:
             runs.check(title, document)
         for title, text, wanted in [*large(), *deep()]:
             runs.check(title, text.encode(), wanted)
+        for title, document in (pairs := paired()).items():
+            runs.check(title, document)
         cut = cuts(documents, LARGEST)
         for document, title in cut.items():
             runs.check(title, document)
-        inputs = [*documents.values()]
+        inputs = [*documents.values(), *pairs.values()]
         for title, document in changes(Source(Random(said.seed), inputs, LANGUAGE), inputs, said.changes):
             runs.check(title, document)
     for answer, count in sorted(runs.answers.items()):
         print(f"{count:8} {answer}")
     seconds, title, length = runs.slowest
     print(f"the slowest document: {title}, {length} bytes, {seconds:.2f} s")
-    print(f"{runs.count} documents, {len(documents)} small ones, {len(cut)} cut; {runs.wrong} went wrong")
+    counts = f"{len(documents)} small ones, {len(pairs)} of two things, {len(cut)} cut"
+    print(f"{runs.count} documents, {counts}; {runs.wrong} went wrong")
     return 1 if runs.wrong else 0
 
 

@@ -8,8 +8,8 @@ from typing import Any
 
 from .hostile import NANOS
 
-# How many hosts, clocks, labels or links there may be, and how many bytes a document may have.
-ENTRIES, LARGEST = 1 << 16, 1 << 24
+# How many hosts, clocks, labels or links there may be, how many bytes a document may have, how many subnets a label.
+ENTRIES, LARGEST, SUBNETS = 1 << 16, 1 << 24, 256
 NAME = re.compile(r"[A-Za-z0-9._-]{1,32}", re.ASCII)
 TOKEN = re.compile(
     r'"""(?:\\.|[^\\])*?"""(?:"{0,2})|\'\'\'.*?\'\'\'(?:\'{0,2})|"(?:\\.|[^"\\\n])*"|\'[^\'\n]*\'|#[^\n]*'
@@ -20,7 +20,12 @@ RATES = {"short": 999_999_999, "long": 1_000_000_000, "early": NANOS - 1, "late"
 NUMBER_KEYS: dict[str, type] = {**{it: int for it in RATES}, "offset": int}
 HOST_KEYS: dict[str, type] = {**NUMBER_KEYS, "addresses": list, "addresses6": list, "clocks": list}
 CLOCK_KEYS: dict[str, type] = {"name": str, **NUMBER_KEYS, "gap": int}
-LABEL_KEYS = {"host": str, "kind": str, "clock": str}
+# The keys of the subnets of a label, and whether those are beyond, and of version 6.
+SUBNET_KEYS = {
+    "addresses": (False, False), "addresses6": (False, True), "beyond": (True, False), "beyond6": (True, True),
+}  # fmt: skip
+CAPTURE_KEYS: dict[str, type] = {"interface": int, **{it: list for it in SUBNET_KEYS}}
+LABEL_KEYS: dict[str, type] = {"host": str, "kind": str, "clock": str, "segment": str, **CAPTURE_KEYS}
 LINK_KEYS = {"from": str, "to": str, "least": int, "most": int}
 TOP_KEYS = {
     "fragments": bool, "hosts": dict, "labels": dict, "links": list, "payload_bytes": int, "source": str,
@@ -145,6 +150,28 @@ def address6(text: str) -> tuple[int, ...]:
     return tuple(int(it, 16) for it in parts)
 
 
+def subnet(text: str, is_wide: bool) -> tuple[int, int, int]:
+    """A subnet: how many bits an address has, how many of them count, and the number that these write."""
+    first, slash, bits = text.partition("/")
+    parts = address6(first) if is_wide else address(first)
+    width, most = (16, 128) if is_wide else (8, 32)
+    want(not slash or re.fullmatch("0|[1-9][0-9]{0,2}", bits, re.ASCII) is not None, 6)
+    count = int(bits) if slash else most
+    number = sum(part << width * place for place, part in enumerate(reversed(parts)))
+    want(count <= most and number % (1 << most - count) == 0, 6)
+    return most, count, number >> most - count
+
+
+def look_at_subnets(label: Table) -> None:
+    """Looks at the subnets of a label, one after the other."""
+    sides: dict[tuple[int, int, int], bool] = {}
+    for key, (is_beyond, is_wide) in SUBNET_KEYS.items():
+        for text in label.get(key, []):
+            it = subnet(text, is_wide)
+            want(it not in sides, 6 if sides.get(it) == is_beyond else 9)
+            sides[it] = is_beyond
+
+
 class Declared:
     """What a table declares: its clocks, follows, labels, links and window. `at` is the entry that is being read."""
 
@@ -156,6 +183,7 @@ class Declared:
         self.window: int | None = None
         self.follows: list[tuple[str, str, int]] = []
         self.labels: dict[str, tuple[str, str, str]] = {}
+        self.segments: dict[str, str] = {}
         self.links: dict[tuple[str, str], tuple[int, int | str]] = {}
         self.addresses: set[tuple[int, ...]] = set()
 
@@ -207,14 +235,23 @@ class Declared:
         """Whether the window, if there is one, takes together events of two clocks that have one stamp."""
         return self.window is None or abs(self.offsets[one] - self.offsets[other]) <= self.window
 
+    def is_one_segment(self, one: str, other: str) -> bool:
+        """Whether two labels name one segment, or neither names one."""
+        return self.segments[one] == self.segments[other]
+
     def read_label(self, name: str, label: Table, place: int) -> None:
         look(label, LABEL_KEYS, ["host", "kind"])
+        want(all(type(it) is str for key in SUBNET_KEYS for it in label.get(key, [])), 3)
         clocks = self.hosts.get(label["host"], [""])
         clock = label.get("clock", clocks[0])
         is_label = is_name(name) and label["host"] in self.hosts and label["kind"] in ("log", "capture")
-        want(is_label and clock in clocks, 4)
-        want(place <= ENTRIES, 5)
+        want(is_label and clock in clocks and is_name(label.get("segment", "none")), 4)
+        want(label["kind"] == "capture" or not any(it in label for it in CAPTURE_KEYS), 2)
+        want(place <= ENTRIES and is_number(label, "interface", (1 << 32) - 1), 5)
+        want(sum(len(label.get(it, [])) for it in SUBNET_KEYS) <= SUBNETS, 5)
+        look_at_subnets(label)
         self.labels[name] = (label["host"], label["kind"], clock)
+        self.segments[name] = label.get("segment", "")
 
     def read_link(self, link: Table, place: int) -> None:
         look(link, LINK_KEYS, ["from", "to"])
