@@ -9,15 +9,15 @@ from typing import Any
 from captures import Capture
 from headers import Key, address_text, decode, interface_of, is_unicast
 from inputs import Input
-from sights import is_routed
+from sights import is_routed, once
 from vantage import ROUTED_PART, Vantage
+from votes import VOTES_PART
 
 # Two addresses, the lesser one first.
 Pair = tuple[bytes, bytes]
 
 # A question and its answer tell the ends apart where their times differ by more than the stamps' error and this part of the time.
 DRIFT_PART = 1000
-VOTES_PART = 0.9
 
 
 @dataclass
@@ -193,7 +193,7 @@ def count_votes(one: Seen, other: Seen, pair: Pair) -> list[int]:
 
     From a question to its answer more time passes at the end that asks, by both ways; what the offsets of the clocks are does not matter.
     """
-    stamps = [once(it.keys.get(pair, ())) for it in (one, other)]
+    stamps = [once((key, stamp) for stamp, key in it.keys.get(pair, ())) for it in (one, other)]
     common = sorted((stamps[0][key], stamps[1][key], key) for key in stamps[0].keys() & stamps[1].keys())
     votes = [0, 0]
     for (early, early2, question), (late, late2, answer) in zip(common, common[1:]):
@@ -206,12 +206,6 @@ def count_votes(one: Seen, other: Seen, pair: Pair) -> list[int]:
         asks = pair.index(question[0])
         votes[asks if waited > waited2 else 1 - asks] += 1
     return votes
-
-
-def once(found: Iterable[tuple[int, Key]]) -> dict[Key, int]:
-    """Returns the stamps, by key, of the keys that stand there just once."""
-    counts = Counter(key for _, key in found)
-    return {key: stamp for stamp, key in found if counts[key] == 1}
 
 
 def ends_of(captures: Iterable[Input], vantage: Vantage | None = None) -> Ends:

@@ -7,6 +7,7 @@ from typing import Any
 from ends import declared_own
 from headers import COOKED2, Key, address_text, content_of, decode, end_text, interface_of
 from inputs import Input, with_hosts
+from interfaces import TWICE_PART
 from placing import Placing, misplaced
 from sides import Sides
 from texts import plain
@@ -19,8 +20,6 @@ Way = tuple[bytes, bytes]
 
 # So many packets are looked at, of each host, for translated addresses.
 LOOKED_MOST = 200_000
-# Where so large a part of a host's packets is there on several interfaces, each packet is.
-TWICE_PART = 0.2
 
 
 class Shortfall:

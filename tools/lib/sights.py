@@ -3,6 +3,7 @@
 from collections import Counter
 from collections.abc import Iterable, Iterator
 from dataclasses import dataclass, field
+from typing import TypeVar
 
 from captures import Packet
 from headers import (
@@ -19,6 +20,8 @@ GROUP = 1
 LOOKED_MOST, PAYLOAD_MOST = 1 << 18, 64
 # The numbers of bytes of the payload that are tried; of several that do as well the first is taken.
 PAYLOAD_BYTES = (8, 16, 32, 64, 0)
+
+Told = TypeVar("Told")
 
 
 @dataclass(slots=True)
@@ -72,8 +75,8 @@ def is_routed(hops: int) -> bool:
     return hops not in FIRST_HOPS and any(0 < first - hops <= ROUTERS_MOST for first in FIRST_HOPS)
 
 
-def once(found: Iterable[tuple[Key | None, Sight]]) -> dict[Key, Sight]:
-    """Returns the packets by what stands there just once."""
+def once(found: Iterable[tuple[Key | None, Told]]) -> dict[Key, Told]:
+    """Returns what is told of each key that stands there just once."""
     entries = [(key, it) for key, it in found if key is not None]
     counts = Counter(key for key, _ in entries)
     return {key: it for key, it in entries if counts[key] == 1}
