@@ -13,7 +13,7 @@ use Rattle.problem_model.specs.declared.items.Node.TheVariants as nodes
 use Rattle.problem_model.specs.declared.items.Bound.{Bound}
 use Rattle.problem_model.specs.declared.items.Bound.TheVariants.{SpanMost, SpanLeast, Late, Early}
 use Rattle.problem_model.specs.Problem.{ProblemLists, IsProblem}
-use Rattle.problem_model.specs.Bounds.{Constraint, Declares, ClockAt, EventAt, IsReading}
+use Rattle.problem_model.specs.Bounds.{Constraint, Declares, ClockAt, EventAt, IsReading, early_of, late_of}
 use Rattle.problem_model.specs.Nodes.{Reading}
 use Rattle.problem_model.specs.Executions.{Arc, IsExecution}
 use Rattle.problem_model.specs.Cuts.{IsCut}
@@ -115,7 +115,7 @@ module _ (l : Listed) (p : ProblemLists) (readings : List Reading) (g : GraphLis
     to_reading : (n : Node) (clock stamp : ℕ) → IsNodeOf p n → IsStampOf p n clock stamp → Holds n → Holds (nodes.Reading clock stamp)
     to_reading (nodes.Event e) clock stamp there (v, at, on, is_stamp) holds =
         let c = clock_of p v.clock v.stamp stands.lawful (reading_of p e v at) in
-        let here : Holds (nodes.Reading v.clock v.stamp) = closed_bound (Early e) (record { from = nodes.Event e; to = nodes.Reading v.clock v.stamp; weight = pos (c.0.early * 1000000000) }) (v, c.0, at, c.1, refl) holds in
+        let here : Holds (nodes.Reading v.clock v.stamp) = closed_bound (Early e) (record { from = nodes.Event e; to = nodes.Reading v.clock v.stamp; weight = pos (early_of c.0 v * 1000000000) }) (v, c.0, at, c.1, refl) holds in
         subst (λ (k : ℕ). Holds (nodes.Reading k stamp)) on (subst (λ (t : ℕ). Holds (nodes.Reading v.clock t)) is_stamp here)
     to_reading (nodes.Reading place s) clock stamp there (on, is_stamp) holds = subst (λ (k : ℕ). Holds (nodes.Reading k stamp)) on (subst (λ (t : ℕ). Holds (nodes.Reading place t)) is_stamp holds)
 
@@ -123,7 +123,7 @@ module _ (l : Listed) (p : ProblemLists) (readings : List Reading) (g : GraphLis
     from_reading (nodes.Event e) clock stamp there (v, at, on, is_stamp) holds =
         let c = clock_of p v.clock v.stamp stands.lawful (reading_of p e v at) in
         let here : Holds (nodes.Reading v.clock v.stamp) = subst (λ (k : ℕ). Holds (nodes.Reading k v.stamp)) (sym on) (subst (λ (t : ℕ). Holds (nodes.Reading clock t)) (sym is_stamp) holds) in
-        closed_bound (Late e) (record { from = nodes.Reading v.clock v.stamp; to = nodes.Event e; weight = pos (c.0.late * 1000000000) }) (v, c.0, at, c.1, refl) here
+        closed_bound (Late e) (record { from = nodes.Reading v.clock v.stamp; to = nodes.Event e; weight = pos (late_of c.0 v * 1000000000) }) (v, c.0, at, c.1, refl) here
     from_reading (nodes.Reading place s) clock stamp there (on, is_stamp) holds =
         subst (λ (k : ℕ). Holds (nodes.Reading k s)) (sym on) (subst (λ (t : ℕ). Holds (nodes.Reading clock t)) (sym is_stamp) holds)
 

@@ -12,10 +12,11 @@ use Rattle.problem_model.specs.declared.items.Clock.{Clock}
 use Rattle.problem_model.specs.declared.items.Follow as items
 use Rattle.problem_model.specs.declared.items.Event.{Event}
 use Rattle.problem_model.specs.declared.items.Message.{Message}
+use Rattle.problem_model.specs.declared.items.StampBounds.{StampBounds}
 use Rattle.problem_model.specs.declared.items.Bound.{Bound}
 use Rattle.problem_model.specs.declared.items.Bound.TheVariants.{SpanMost, SpanLeast, Late, Early, Follow, DelayMost, DelayLeast}
-use Rattle.problem_model.specs.Problem.{ProblemLists, IsProblem, ClockFits, MessageFits}
-use Rattle.problem_model.specs.Bounds.{Constraint, Declares, IsReading, ClockAt}
+use Rattle.problem_model.specs.Problem.{ProblemLists, IsProblem, ClockFits, EventFits, MessageFits}
+use Rattle.problem_model.specs.Bounds.{Constraint, Declares, IsReading, ClockAt, early_of, late_of}
 use Rattle.problem_model.specs.Nodes.{Reading, AreReadings, IsEarlierReading}
 use Rattle.problem_model.specs.ShortList.{short_list, neighbour_bounds, span_bounds, event_bounds, clocks_before, first_reading, nearest_reading, follow_bound, follow_bounds, most_bound, message_bounds}
 use Rattle.problem_model.proofs.Following.{chained_by, by_last}
@@ -50,7 +51,19 @@ holds_at P xs k a all there = subst P (get_or_from_slice_get xs k a a there) (al
 most_fits : (o : Option ℕ) (most : ℕ) → IfSome o (λ n. n < 2 ^ 62) → o ≡ Some most → most < 2 ^ 62
 most_fits o most fits is = subst (λ (v : Option ℕ). IfSome v (λ n. n < 2 ^ 62)) is fits
 
+-- bounds of an event are few ns, whether they are its own or its clock's
+late_fits : (o : Option StampBounds) (n : ℕ) → IfSome o (λ own. (own.early < 2 ^ 62) × (own.late < 2 ^ 62)) → n < 2 ^ 62 → (elim o [ None ↦ n | Some own ↦ own.late ]) < 2 ^ 62
+late_fits None n own clock = clock
+late_fits (Some b) n own clock = own.1
+
+early_fits : (o : Option StampBounds) (n : ℕ) → IfSome o (λ own. (own.early < 2 ^ 62) × (own.late < 2 ^ 62)) → n < 2 ^ 62 → (elim o [ None ↦ n | Some own ↦ own.early ]) < 2 ^ 62
+early_fits None n own clock = clock
+early_fits (Some b) n own clock = own.0
+
 module _ (p : ProblemLists) (lawful : IsProblem p) where
+  event_fits : (e : ℕ) (v : Event) → slice_get p.events e ≡ Some v → EventFits v
+  event_fits e v at = holds_at EventFits p.events e v lawful.fits.events_fit at
+
   weight_small : (b : Bound) (c : Constraint) → Declares p b c → IsUnder 93 c.weight
   weight_small (SpanMost clock s t) c (k, at, is, is', before, same) =
       let fits = holds_at ClockFits p.clocks clock k lawful.fits.clocks_fit at in
@@ -62,10 +75,10 @@ module _ (p : ProblemLists) (lawful : IsProblem p) where
       subst (IsUnder 93) (sym (ap (λ (v : Constraint). v.weight) same)) (down_to (least_of k.rate (t - s)) (span_few (t - s) (1000000000 - k.rate.short) (omega (arith, last)) (omega arith)))
   weight_small (Late e) c (v, k, at, at', same) =
       let fits = holds_at ClockFits p.clocks v.clock k lawful.fits.clocks_fit at' in
-      subst (IsUnder 93) (sym (ap (λ (v : Constraint). v.weight) same)) (up_to (k.late * 1000000000) (delay_few k.late fits.3))
+      subst (IsUnder 93) (sym (ap (λ (v : Constraint). v.weight) same)) (up_to (late_of k v * 1000000000) (delay_few (late_of k v) (late_fits v.bounds k.late (event_fits e v at).1 fits.3)))
   weight_small (Early e) c (v, k, at, at', same) =
       let fits = holds_at ClockFits p.clocks v.clock k lawful.fits.clocks_fit at' in
-      subst (IsUnder 93) (sym (ap (λ (v : Constraint). v.weight) same)) (up_to (k.early * 1000000000) (delay_few k.early fits.2))
+      subst (IsUnder 93) (sym (ap (λ (v : Constraint). v.weight) same)) (up_to (early_of k v * 1000000000) (delay_few (early_of k v) (early_fits v.bounds k.early (event_fits e v at).1 fits.2)))
   weight_small (Follow earlier s later t) c (f, has, to, after, is, is', same) =
       let fits : f.gap < 2 ^ 62 = All-contains (λ (v : items.Follow). v.gap < 2 ^ 62) p.follows f lawful.fits.gaps_fit has in
       subst (IsUnder 93) (sym (ap (λ (v : Constraint). v.weight) same)) (down_to (f.gap * 1000000000) (delay_few f.gap fits))

@@ -91,7 +91,7 @@ module _ {A : Type 0} (key : A → List ℕ) where
       ]
 
 event_none : Event
-event_none = record { name = []; clock = 0; stamp = 0 }
+event_none = record { name = []; clock = 0; stamp = 0; bounds = None }
 
 clock_none : Clock
 clock_none = record { name = []; rate = record { short = 0; long = 0 }; early = 0; late = 0 }

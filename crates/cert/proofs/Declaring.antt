@@ -8,7 +8,7 @@ use Rattle.problem_model.specs.declared.items.Event.{Event}
 use Rattle.problem_model.specs.declared.items.Message.{Message}
 use Rattle.problem_model.specs.declared.items.Bound.{Bound}
 use Rattle.problem_model.specs.declared.items.Bound.TheVariants as bounds
-use Rattle.problem_model.specs.Problem.{ProblemLists, IsProblem}
+use Rattle.problem_model.specs.Problem.{ProblemLists, IsProblem, EventFits}
 use Rattle.problem_model.specs.Bounds.{IsReading, ComesAfter}
 use Rattle.problem_model.specs.Nodes.{Reading, AreReadings}
 use Rattle.problem_model.proofs.Following.{by_last}
@@ -50,7 +50,7 @@ read_at p readings k m s are at = are.each k s (contained readings m (k, s) at)
     contained (x ∷ rs) (suc m) r at = let c = contained rs m r at in (suc c.0, omega (arith, c.1), c.2)
 
 pub reading_fits : (p : ProblemLists) (k s : ℕ) → IsProblem p → IsReading p k s → s < 2 ^ 62
-reading_fits p k s lawful (e, has, clock, stamp) = subst (λ (n : ℕ). n < 2 ^ 62) stamp (All-contains (λ (v : Event). v.stamp < 2 ^ 62) p.events e lawful.fits.stamps_fit has)
+reading_fits p k s lawful (e, has, clock, stamp) = subst (λ (n : ℕ). n < 2 ^ 62) stamp (All-contains EventFits p.events e lawful.fits.events_fit has).0
 
 pub stamp_is : (n : Option ℕ) (m x : ℕ) → n ≡ Some x → SomeIff n (m < 2 ^ 62) m → m ≡ x
 stamp_is None m x is held = absurd cc

@@ -1,5 +1,5 @@
 -- What stands at a place of the nodes.
-use Rattle.std.proofs.Common.{◌≡◌, ◌<◌, ◌≤◌, ◌+◌, ℕ, zero, suc, List, [], ◌∷◌, ◌++◌, length, slice_get, All, Some, refl, ◌∙◌, ap, subst, arith}
+use Rattle.std.proofs.Common.{◌≡◌, ◌<◌, ◌≤◌, ◌+◌, ℕ, zero, suc, List, [], ◌∷◌, ◌++◌, length, slice_get, All, Some, None, refl, ◌∙◌, ap, subst, arith}
 use Rattle.std.specs.List.{slice_index_or}
 use Rattle.std.proofs.lemmas.List.Elements.{Contains-get_or}
 use Rattle.problem_model.specs.declared.items.Clock.{Clock}
@@ -50,7 +50,7 @@ clock_name_is (c ∷ cs) zero d inside = refl
 clock_name_is (c ∷ cs) (suc k) d inside = clock_name_is cs k d (omega (arith, inside))
 
 event_zero : Event
-event_zero = record { name = []; clock = 0; stamp = 0 }
+event_zero = record { name = []; clock = 0; stamp = 0; bounds = None }
 
 clock_zero : Clock
 clock_zero = record { name = []; rate = record { short = 0; long = 0 }; early = 0; late = 0 }

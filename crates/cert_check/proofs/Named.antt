@@ -8,7 +8,7 @@ use Rattle.problem_model.specs.declared.items.Event.{Event}
 use Rattle.problem_model.specs.declared.items.Node.TheVariants as nodes
 use Rattle.problem_model.specs.declared.items.Bound.TheVariants.{SpanMost, SpanLeast, Late, Early}
 use Rattle.problem_model.specs.Problem.{ProblemLists, IsWellFormed}
-use Rattle.problem_model.specs.Bounds.{Constraint, Declares, IsReading}
+use Rattle.problem_model.specs.Bounds.{Constraint, Declares, IsReading, early_of, late_of}
 use Rattle.problem_model.proofs.Walking.{clock_there}
 
 pub there_is : {X : Type 0} (xs : List X) (k : ℕ) → k < length xs → (x : X) × (slice_get xs k ≡ Some x)
@@ -25,11 +25,11 @@ module _ (p : ProblemLists) (lawful : IsWellFormed p) where
 
   pub late_named : (e : ℕ) → e < length p.events → (c : Constraint) × Declares p (Late e) c
   late_named e inside = let event = there_is p.events e inside in let clock = clock_of e event.0 event.1 in
-      (record { from = nodes.Reading event.0.clock event.0.stamp; to = nodes.Event e; weight = pos (clock.0.late * 1000000000) }, (event.0, clock.0, event.1, clock.1, refl))
+      (record { from = nodes.Reading event.0.clock event.0.stamp; to = nodes.Event e; weight = pos (late_of clock.0 event.0 * 1000000000) }, (event.0, clock.0, event.1, clock.1, refl))
 
   pub early_named : (e : ℕ) → e < length p.events → (c : Constraint) × Declares p (Early e) c
   early_named e inside = let event = there_is p.events e inside in let clock = clock_of e event.0 event.1 in
-      (record { from = nodes.Event e; to = nodes.Reading event.0.clock event.0.stamp; weight = pos (clock.0.early * 1000000000) }, (event.0, clock.0, event.1, clock.1, refl))
+      (record { from = nodes.Event e; to = nodes.Reading event.0.clock event.0.stamp; weight = pos (early_of clock.0 event.0 * 1000000000) }, (event.0, clock.0, event.1, clock.1, refl))
 
   pub most_named : (clock s t : ℕ) → IsReading p clock s → IsReading p clock t → s < t → (c : Constraint) × Declares p (SpanMost clock s t) c
   most_named clock s t reading reading' less = let c = there_is p.clocks clock (clock_there p clock s lawful reading) in

@@ -1,5 +1,5 @@
 -- A widened problem has the nodes and the names of bounds that the problem has, and other weights alone.
-use Rattle.std.proofs.Common.{◌≡◌, ◌≢◌, ◌<◌, ◌+◌, ◌-◌, ◌*◌, ℕ, zero, suc, Bool, true, false, List, [], ◌∷◌, ◌++◌, length, map, get_or, slice_get, Option, Some, None, refl, sym, ◌∙◌, ap, subst, arith}
+use Rattle.std.proofs.Common.{◌≡◌, ◌≢◌, ◌<◌, ◌+◌, ◌-◌, ◌*◌, ℕ, zero, suc, Bool, true, false, List, [], ◌∷◌, ◌++◌, length, map, get_or, slice_get, Option, Some, None, is_some, refl, sym, ◌∙◌, ap, subst, arith}
 use Rattle.std.specs.Prelude.{All, AllPairs, Contains, ℤ, pos, neg_ℤ, if◌then◌else◌, ⊤}
 use Rattle.std.specs.List.{flat_map}
 use Rattle.std.proofs.lemmas.Int.{ints}
@@ -8,6 +8,7 @@ use Rattle.std.proofs.lemmas.Option.{slice_get-get_or, slice_get_within, get_or_
 use Rattle.atto.specs.Span.{most_of, least_of}
 use Rattle.problem_model.specs.declared.items.Clock.{Clock}
 use Rattle.problem_model.specs.declared.items.Event.{Event}
+use Rattle.problem_model.specs.declared.items.StampBounds.{StampBounds}
 use Rattle.problem_model.specs.declared.items.Follow.{Follow}
 use Rattle.problem_model.specs.declared.items.Message.{Message}
 use Rattle.problem_model.specs.declared.items.Bound.{Bound}
@@ -15,8 +16,8 @@ use Rattle.problem_model.specs.declared.items.Bound.TheVariants as bounds
 use Rattle.problem_model.specs.declared.items.Bound.TheVariants.{SpanMost, SpanLeast, Late, Early, DelayMost, DelayLeast}
 use Rattle.problem_model.specs.declared.items.Node.TheVariants as nodes
 use Rattle.problem_model.specs.Problem.{ProblemLists, LeadsOn, IsWellFormed}
-use Rattle.problem_model.specs.Name.{IsClockName}
-use Rattle.problem_model.specs.Bounds.{Constraint, ClockAt, LinesLead, ComesAfter, Declares, Times}
+use Rattle.problem_model.specs.Name.{IsClockName, IsEventName}
+use Rattle.problem_model.specs.Bounds.{Constraint, IsReading, ClockAt, LinesLead, ComesAfter, Declares, Times, early_of, late_of}
 use Rattle.problem_model.specs.Nodes.{Reading, AreReadings}
 use Rattle.problem_model.specs.ShortList.{span_bounds, event_bounds, follow_bounds, most_bound, message_bounds}
 use Rattle.problem.specs.Nearest.{gap_between}
@@ -28,7 +29,7 @@ use Rattle.cert_check.specs.declared.what.What.{What}
 use Rattle.cert_check.specs.declared.what.What.TheVariants.{Delays, Least, Stamps, Rates, Gaps}
 use Rattle.cert_check.specs.Reasons.{joining_bounds}
 use Rattle.cert_check.specs.Verdict.{Judges, IsVerdict}
-use Rattle.cert_check.specs.Widened.{has_clock, added_to, gap_left, widened_follows, widened_most, with_wider_rate, with_wider_stamps, widened_clock, clocks_by, widened_clocks, widened_message, widened}
+use Rattle.cert_check.specs.Widened.{has_clock, added_to, gap_left, widened_follows, widened_most, with_wider_rate, with_wider_stamps, widened_clock, clocks_by, widened_clocks, wider_bounds, widened_own, widened_event, widened_events, widened_message, widened}
 use Rattle.cert_check.proofs.Loops.{whole_verdict}
 use Rattle.cert_check.proofs.GapsLeft.{widened_follow, follows_are, listed_same}
 use Rattle.cert_check.proofs.Messages.{some_same}
@@ -148,13 +149,72 @@ name_at what e cs k d inside =
     let at = widened_at what e cs k (get_or cs k d) (slice_get-get_or cs k d inside) in
     ap (λ (c : Clock). c.name) (get_or_from_slice_get (widened_clocks what e cs) k (widened_clock what e k (get_or cs k d)) d at) ∙ name_same what e k (get_or cs k d)
 
--- ---- from the bounds of a problem to those of another one with the same events
+-- ---- events
+all_kept : (f : Event → Event) → ((v : Event) → f v ≡ v) → (vs : List Event) → map f vs ≡ vs
+all_kept f same [] = refl
+all_kept f same (v ∷ vs) = rw (same v, all_kept f same vs) refl
+
+pub events_are : (what : What) (e : ℕ) (vs : List Event) → widened_events what e vs ≡ map (widened_event what e) vs
+events_are (Delays which) e vs = sym (all_kept (widened_event (Delays which) e) (λ v. refl) vs)
+events_are (Least which) e vs = sym (all_kept (widened_event (Least which) e) (λ v. refl) vs)
+events_are (Stamps which) e vs = refl
+events_are (Rates which) e vs = sym (all_kept (widened_event (Rates which) e) (λ v. refl) vs)
+events_are Gaps e vs = sym (all_kept (widened_event Gaps e) (λ v. refl) vs)
+
+mapped_at : (f : Event → Event) (vs : List Event) (k : ℕ) (v : Event) → slice_get vs k ≡ Some v → slice_get (map f vs) k ≡ Some (f v)
+mapped_at f [] k v at = absurd cc
+mapped_at f (w ∷ vs) zero v at = ap (λ (u : Event). Some (f u)) (some_same w v at)
+mapped_at f (w ∷ vs) (suc k) v at = mapped_at f vs k v at
+
+pub event_at : (what : What) (e : ℕ) (vs : List Event) (k : ℕ) (v : Event) → slice_get vs k ≡ Some v → slice_get (widened_events what e vs) k ≡ Some (widened_event what e v)
+event_at what e vs k v at = ap (λ (ws : List Event). slice_get ws k) (events_are what e vs) ∙ mapped_at (widened_event what e) vs k v at
+
+events_long : (what : What) (e : ℕ) (vs : List Event) → length (widened_events what e vs) ≡ length vs
+events_long what e vs = ap length (events_are what e vs) ∙ length-map vs (widened_event what e)
+
+-- a widened event is one that was widened
+pub event_from : (what : What) (e : ℕ) (vs : List Event) (k : ℕ) (w : Event) → slice_get (widened_events what e vs) k ≡ Some w → (v : Event) × (slice_get vs k ≡ Some v) × (w ≡ widened_event what e v)
+event_from what e vs k w at =
+    let within = slice_get_within (widened_events what e vs) k w at in
+    let there = there_is vs k (omega (arith, within, events_long what e vs)) in
+    (there.0, there.1, some_same w (widened_event what e there.0) (sym at ∙ event_at what e vs k there.0 there.1))
+
+-- it has bounds of its own where the event has
+own_either : (b : Bool) (own : Option StampBounds) (e : ℕ) → is_some (if b then wider_bounds e own else own) ≡ is_some own
+own_either true None e = refl
+own_either true (Some o) e = refl
+own_either false own e = refl
+
+own_same : (what : What) (e : ℕ) (v : Event) → is_some (widened_own what e v) ≡ is_some v.bounds
+own_same (Delays which) e v = refl
+own_same (Least which) e v = refl
+own_same (Stamps which) e v = own_either (has_clock which v.clock) v.bounds e
+own_same (Rates which) e v = refl
+own_same Gaps e v = refl
+
+-- the names of the bounds on stamps are the same
+stamps_mapped : (f : Event → Event) (k : ℕ) (vs : List Event) → event_bounds k (map f vs) ≡ event_bounds k vs
+stamps_mapped f k [] = refl
+stamps_mapped f k (v ∷ vs) = ap (λ (bs : List Bound). Late k ∷ Early k ∷ bs) (stamps_mapped f (k + 1) vs)
+
+pub stamps_same : (what : What) (e : ℕ) (vs : List Event) → event_bounds 0 (widened_events what e vs) ≡ event_bounds 0 vs
+stamps_same what e vs = ap (event_bounds 0) (events_are what e vs) ∙ stamps_mapped (widened_event what e) 0 vs
+
+-- ---- from the bounds of a problem to those of another one whose events have the same stamps
 -- what the weights by a clock, by a follow and by a message become
 pub record ClockGoes (R : ℤ → ℤ → Type 0) (c d : Clock) : Type 0 where
   pub most : (n : ℕ) → R (pos (most_of c.rate n)) (pos (most_of d.rate n))
   pub least : (n : ℕ) → R (neg_ℤ (pos (least_of c.rate n))) (neg_ℤ (pos (least_of d.rate n)))
-  pub late : R (pos (c.late * 1000000000)) (pos (d.late * 1000000000))
-  pub early : R (pos (c.early * 1000000000)) (pos (d.early * 1000000000))
+
+-- the event has its stamp from the same clock
+pub record EventGoes (v w : Event) : Type 0 where
+  pub clock : w.clock ≡ v.clock
+  pub stamp : w.stamp ≡ v.stamp
+
+-- what the weights of the bounds on its stamp become
+pub record StampGoes (R : ℤ → ℤ → Type 0) (c d : Clock) (v w : Event) : Type 0 where
+  pub late : R (pos (late_of c v * 1000000000)) (pos (late_of d w * 1000000000))
+  pub early : R (pos (early_of c v * 1000000000)) (pos (early_of d w * 1000000000))
 
 pub record FollowGoes (R : ℤ → ℤ → Type 0) (f g : Follow) : Type 0 where
   pub earlier : g.earlier ≡ f.earlier
@@ -167,9 +227,9 @@ pub record MessageGoes (R : ℤ → ℤ → Type 0) (m n : Message) : Type 0 whe
   pub least : R (neg_ℤ (pos (m.least * 1000000000))) (neg_ℤ (pos (n.least * 1000000000)))
   pub most : (o : ℕ) → m.most ≡ Some o → (o' : ℕ) × (n.most ≡ Some o') × R (pos (o * 1000000000)) (pos (o' * 1000000000))
 
-module _ (p : ProblemLists) (cs : List Clock) (fs : List Follow) (ms : List Message) (R : ℤ → ℤ → Type 0) where
+module _ (p : ProblemLists) (cs : List Clock) (fs : List Follow) (es : List Event) (ms : List Message) (R : ℤ → ℤ → Type 0) where
   abbrev other : ProblemLists
-  other = record { clocks = cs; follows = fs; events = p.events; messages = ms }
+  other = record { clocks = cs; follows = fs; events = es; messages = ms }
 
   module _ (follows_go : (f : Follow) → Contains p.follows f → (g : Follow) × Contains fs g × FollowGoes R f g) where
     leads_on : (c : ℕ) (lines : List Follow) (d : ℕ) → LinesLead p c lines d → (others : List Follow) × LinesLead other c others d
@@ -185,38 +245,49 @@ module _ (p : ProblemLists) (cs : List Clock) (fs : List Follow) (ms : List Mess
         let rest = leads_on f.later lines d leads in
         (there.0, rest.0, (there.1, there.2.earlier ∙ from, subst (λ (k : ℕ). LinesLead other k rest.0 d) (sym there.2.later) rest.1))
 
+  module _ (events_go : (k : ℕ) (v : Event) → slice_get p.events k ≡ Some v → (w : Event) × (slice_get es k ≡ Some w) × EventGoes v w) where
+    pub reading_goes : (k s : ℕ) → IsReading p k s → IsReading other k s
+    reading_goes k s (v, (j, inside, is), on, reads) =
+        let at : slice_get p.events j ≡ Some v = slice_get-get_or p.events j v inside ∙ ap Some is in
+        let there = events_go j v at in
+        (there.0, (j, slice_get_within es j there.0 there.1, get_or_from_slice_get es j there.0 there.0 there.1), there.2.clock ∙ on, there.2.stamp ∙ reads)
+
   module _ (clocks_go : (k : ℕ) (c : Clock) → ClockAt p k c → (d : Clock) × (slice_get cs k ≡ Some d) × ClockGoes R c d)
+      (events_go : (k : ℕ) (v : Event) → slice_get p.events k ≡ Some v → (w : Event) × (slice_get es k ≡ Some w) × EventGoes v w)
+      (stamps_go : (k : ℕ) (v : Event) (c : Clock) (at : slice_get p.events k ≡ Some v) (on : ClockAt p v.clock c) → StampGoes R c (clocks_go v.clock c on).0 v (events_go k v at).0)
       (follows_go : (f : Follow) → Contains p.follows f → (g : Follow) × Contains fs g × FollowGoes R f g)
       (messages_go : (m : Message) → Contains p.messages m → (n : Message) × Contains ms n × MessageGoes R m n) where
     pub declared_by : (b : Bound) (c : Constraint) → Declares p b c → (d : Constraint) × Declares other b d × R c.weight d.weight
     declared_by (SpanMost clock s t) c (k, at, is_s, is_t, less, is) =
         let there = clocks_go clock k at in (
           record { from = nodes.Reading clock s; to = nodes.Reading clock t; weight = pos (most_of there.0.rate (t - s)) },
-          (there.0, there.1, is_s, is_t, less, refl),
+          (there.0, there.1, reading_goes events_go clock s is_s, reading_goes events_go clock t is_t, less, refl),
           subst (λ (v : Constraint). R v.weight (pos (most_of there.0.rate (t - s)))) (sym is) (there.2.most (t - s)),
         )
     declared_by (SpanLeast clock s t) c (k, at, is_s, is_t, less, is) =
         let there = clocks_go clock k at in (
           record { from = nodes.Reading clock t; to = nodes.Reading clock s; weight = neg_ℤ (pos (least_of there.0.rate (t - s))) },
-          (there.0, there.1, is_s, is_t, less, refl),
+          (there.0, there.1, reading_goes events_go clock s is_s, reading_goes events_go clock t is_t, less, refl),
           subst (λ (v : Constraint). R v.weight (neg_ℤ (pos (least_of there.0.rate (t - s))))) (sym is) (there.2.least (t - s)),
         )
     declared_by (Late e) c (v, k, at, clock_at, is) =
-        let there = clocks_go v.clock k clock_at in (
-          record { from = nodes.Reading v.clock v.stamp; to = nodes.Event e; weight = pos (there.0.late * 1000000000) },
-          (v, there.0, at, there.1, refl),
-          subst (λ (a : Constraint). R a.weight (pos (there.0.late * 1000000000))) (sym is) there.2.late,
+        let there = clocks_go v.clock k clock_at in
+        let event = events_go e v at in (
+          record { from = nodes.Reading event.0.clock event.0.stamp; to = nodes.Event e; weight = pos (late_of there.0 event.0 * 1000000000) },
+          (event.0, there.0, event.1, subst (λ (n : ℕ). ClockAt other n there.0) (sym event.2.clock) there.1, refl),
+          subst (λ (a : Constraint). R a.weight (pos (late_of there.0 event.0 * 1000000000))) (sym is) (stamps_go e v k at clock_at).late,
         )
     declared_by (Early e) c (v, k, at, clock_at, is) =
-        let there = clocks_go v.clock k clock_at in (
-          record { from = nodes.Event e; to = nodes.Reading v.clock v.stamp; weight = pos (there.0.early * 1000000000) },
-          (v, there.0, at, there.1, refl),
-          subst (λ (a : Constraint). R a.weight (pos (there.0.early * 1000000000))) (sym is) there.2.early,
+        let there = clocks_go v.clock k clock_at in
+        let event = events_go e v at in (
+          record { from = nodes.Event e; to = nodes.Reading event.0.clock event.0.stamp; weight = pos (early_of there.0 event.0 * 1000000000) },
+          (event.0, there.0, event.1, subst (λ (n : ℕ). ClockAt other n there.0) (sym event.2.clock) there.1, refl),
+          subst (λ (a : Constraint). R a.weight (pos (early_of there.0 event.0 * 1000000000))) (sym is) (stamps_go e v k at clock_at).early,
         )
     declared_by (bounds.Follow k s l t) c (f, has, later, after, is_s, is_t, is) =
         let there = follows_go f has in (
           gap_between k s l t there.0.gap,
-          (there.0, there.1, there.2.later ∙ later, comes_on follows_go k l after, is_s, is_t, refl),
+          (there.0, there.1, there.2.later ∙ later, comes_on follows_go k l after, reading_goes events_go k s is_s, reading_goes events_go l t is_t, refl),
           subst (λ (a : Constraint). R a.weight (neg_ℤ (pos (there.0.gap * 1000000000)))) (sym is) there.2.gap,
         )
     declared_by (DelayMost send receive) c (m, most, has, from, to, at, is) =
@@ -244,6 +315,15 @@ module _ (what : What) (p : ProblemLists) (e : ℕ) where
   long : length q.clocks ≡ length p.clocks
   long = as_long what e p.clocks
 
+  long_events : length q.events ≡ length p.events
+  long_events = events_long what e p.events
+
+  events_all : (P : Event → Type 0) → ((v : Event) → P v → P (widened_event what e v)) → All P p.events → All P q.events
+  events_all P keeps all = subst (λ (vs : List Event). All P vs) (sym (events_are what e p.events)) (all_widened (widened_event what e) P p.events keeps all)
+
+  events_pairs : (R : Event → Event → Type 0) → ((v w : Event) → R v w → R (widened_event what e v) (widened_event what e w)) → AllPairs R p.events → AllPairs R q.events
+  events_pairs R keeps all = subst (λ (vs : List Event). AllPairs R vs) (sym (events_are what e p.events)) (pairs_widened (widened_event what e) R p.events keeps all)
+
   follows_all : (P : Follow → Type 0) → ((f : Follow) → P f → P (widened_follow what e f)) → All P p.follows → All P q.follows
   follows_all P keeps all = subst (λ (fs : List Follow). All P fs) (sym (follows_are what e p.follows)) (all_widened (widened_follow what e) P p.follows keeps all)
 
@@ -259,21 +339,39 @@ module _ (what : What) (p : ProblemLists) (e : ℕ) where
     follow_ends = follows_all (LeadsOn q.clocks) (λ g x. x) (λ k d inside. (let ends = f.follow_ends k d inside in (ends.0, (let within = ends.1 in omega (arith, within, long)))));
     earliers_differ = follows_pairs (λ a b. a.earlier ≢ b.earlier) (λ a b x. x) f.earliers_differ;
     laters_differ = follows_pairs (λ a b. a.later ≢ b.later) (λ a b x. x) f.laters_differ;
-    event_names = f.event_names;
-    events_differ = f.events_differ;
-    event_clocks = λ k d inside. (let within = f.event_clocks k d inside in omega (arith, within, long));
-    sends = all_widened grow (λ m. m.send < length p.events) p.messages (λ m x. x) f.sends;
-    receives = all_widened grow (λ m. m.receive < length p.events) p.messages (λ m x. x) f.receives;
+    event_names = events_all (λ v. IsEventName v.name) (λ v x. x) f.event_names;
+    events_differ = events_pairs (λ a b. a.name ≢ b.name) (λ a b x. x) f.events_differ;
+    bounds_alike = events_pairs (λ a b. is_some a.bounds ≡ is_some b.bounds) (λ a b x. own_same what e a ∙ x ∙ sym (own_same what e b)) f.bounds_alike;
+    event_clocks = events_all (λ v. v.clock < length q.clocks) (λ v x. x) (λ k d inside. (let within = f.event_clocks k d inside in omega (arith, within, long)));
+    sends = all_widened grow (λ m. m.send < length q.events) p.messages (λ m x. x) (λ k d inside. (let within = f.sends k d inside in omega (arith, within, long_events)));
+    receives = all_widened grow (λ m. m.receive < length q.events) p.messages (λ m x. x) (λ k d inside. (let within = f.receives k d inside in omega (arith, within, long_events)));
     two_ends = all_widened grow (λ m. m.send ≢ m.receive) p.messages (λ m x. x) f.two_ends;
     messages_differ = pairs_widened grow (λ a b. (a.send ≡ b.send) → (a.receive ≡ b.receive) → ⊥) p.messages (λ a b x. x) f.messages_differ;
   }
 
   -- ---- the nodes are the same
+  abbrev Any : ℤ → ℤ → Type 0
+  Any v w = ⊤
+
+  events_on : (k : ℕ) (v : Event) → slice_get p.events k ≡ Some v → (w : Event) × (slice_get q.events k ≡ Some w) × EventGoes v w
+  events_on k v at = (widened_event what e v, event_at what e p.events k v at, record { clock = refl; stamp = refl })
+
+  events_back : (k : ℕ) (w : Event) → slice_get q.events k ≡ Some w → (v : Event) × (slice_get p.events k ≡ Some v) × EventGoes w v
+  events_back k w at =
+      let from = event_from what e p.events k w at in
+      (from.0, from.1, record { clock = ap (λ (u : Event). u.clock) (sym from.2); stamp = ap (λ (u : Event). u.stamp) (sym from.2) })
+
+  pub reading_on : (k s : ℕ) → IsReading p k s → IsReading q k s
+  reading_on = reading_goes p q.clocks q.follows q.events q.messages Any events_on
+
+  pub reading_back : (k s : ℕ) → IsReading q k s → IsReading p k s
+  reading_back = reading_goes q p.clocks p.follows p.events p.messages Any events_back
+
   pub readings_on : (readings : List Reading) → AreReadings p readings → AreReadings q readings
-  readings_on readings are = record { each = are.each; every = are.every; rising = are.rising }
+  readings_on readings are = record { each = λ k s has. reading_on k s (are.each k s has); every = λ k s reading. are.every k s (reading_back k s reading); rising = are.rising }
 
   pub readings_back : (readings : List Reading) → AreReadings q readings → AreReadings p readings
-  readings_back readings are = record { each = are.each; every = are.every; rising = are.rising }
+  readings_back readings are = record { each = λ k s has. reading_back k s (are.each k s has); every = λ k s reading. are.every k s (reading_on k s reading); rising = are.rising }
 
   -- ---- the bounds of the short list that join two clocks are the same
   pub joining_same : (readings : List Reading) → joining_bounds q readings ≡ joining_bounds p readings
@@ -286,12 +384,10 @@ module _ (what : What) (p : ProblemLists) (e : ℕ) where
       → Judges q x (span_bounds readings ++ event_bounds 0 p.events ++ joining_bounds p readings) v → IsVerdict q x v
   widened_verdict x readings v f are judged =
       whole_verdict q x readings v (formed f) (readings_on readings are)
-      (subst (λ (bs : List Bound). Judges q x (span_bounds readings ++ event_bounds 0 p.events ++ bs) v) (sym (joining_same readings)) judged)
+      (subst (λ (bs : List Bound). Judges q x (span_bounds readings ++ bs ++ joining_bounds q readings) v) (sym (stamps_same what e p.events))
+      (subst (λ (bs : List Bound). Judges q x (span_bounds readings ++ event_bounds 0 p.events ++ bs) v) (sym (joining_same readings)) judged))
 
   -- ---- a step of the problem is one of the widened problem
-  abbrev Any : ℤ → ℤ → Type 0
-  Any v w = ⊤
-
   follows_on : (f : Follow) → Contains p.follows f → (g : Follow) × Contains q.follows g × FollowGoes Any f g
   follows_on f has = (widened_follow what e f, follow_in what e p.follows f has, record { earlier = refl; later = refl; gap = tt })
 
@@ -300,12 +396,14 @@ module _ (what : What) (p : ProblemLists) (e : ℕ) where
   follow_on k s l t gap (f, has, later, after, is_s, is_t, is) =
       let weights : neg_ℤ (pos (gap * 1000000000)) ≡ neg_ℤ (pos (f.gap * 1000000000)) = ap (λ (a : Constraint). a.weight) is in
       let same : gap ≡ f.gap = omega (arith, ints, weights) in
-      (widened_follow what e f, follow_in what e p.follows f has, later, comes_on p q.clocks q.follows q.messages Any follows_on k l after, is_s, is_t, ap (λ (n : ℕ). gap_between k s l t (gap_left what e n)) same)
+      (widened_follow what e f, follow_in what e p.follows f has, later, comes_on p q.clocks q.follows q.events q.messages Any follows_on k l after, reading_on k s is_s, reading_on l t is_t, ap (λ (n : ℕ). gap_between k s l t (gap_left what e n)) same)
 
   pub declared_on : (b : Bound) (c : Constraint) → Declares p b c → (d : Constraint) × Declares q b d
   declared_on b c d =
-      let on = declared_by p q.clocks q.follows q.messages Any
-      (λ k c at. (widened_clock what e k c, widened_at what e p.clocks k c at, record { most = λ n. tt; least = λ n. tt; late = tt; early = tt }))
+      let on = declared_by p q.clocks q.follows q.events q.messages Any
+      (λ k c at. (widened_clock what e k c, widened_at what e p.clocks k c at, record { most = λ n. tt; least = λ n. tt }))
+      events_on
+      (λ k v c at on. record { late = tt; early = tt })
       follows_on
       (λ m has. (grow m, contained grow p.messages m has, record { send = refl; receive = refl; least = tt; most = λ o is. (o + added_to what p.events e m, ap (widened_most (added_to what p.events e m)) is, tt) }))
       b c d in

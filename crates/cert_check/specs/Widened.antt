@@ -4,6 +4,7 @@ use Rattle.atto.specs.Span.{RateParts}
 use Rattle.problem_model.specs.declared.items.Clock.{Clock}
 use Rattle.problem_model.specs.declared.items.Follow.{Follow}
 use Rattle.problem_model.specs.declared.items.Event.{Event}
+use Rattle.problem_model.specs.declared.items.StampBounds.{StampBounds}
 use Rattle.problem_model.specs.declared.items.Message.{Message}
 use Rattle.problem_model.specs.Problem.{ProblemLists}
 use Rattle.cert_check.specs.declared.what.Clocks.{Clocks}
@@ -88,6 +89,32 @@ widened_clocks (Stamps which) e cs = clocks_by (widened_clock (Stamps which) e) 
 widened_clocks (Rates which) e cs = clocks_by (widened_clock (Rates which) e) 0 cs
 widened_clocks Gaps e cs = cs
 
+-- ---- events
+-- an event's own bounds, e ns greater, below 2^62 ns
+abbrev pub wider_bounds : ℕ → Option StampBounds → Option StampBounds
+wider_bounds e None = None
+wider_bounds e (Some own) = Some (record { early = min (own.early + e) (2 ^ 62 - 1); late = min (own.late + e) (2 ^ 62 - 1) })
+
+-- the own bounds of an event, widened by e
+abbrev pub widened_own : What → ℕ → Event → Option StampBounds
+widened_own (Delays which) e v = v.bounds
+widened_own (Least which) e v = v.bounds
+widened_own (Stamps which) e v = if has_clock which v.clock then wider_bounds e v.bounds else v.bounds
+widened_own (Rates which) e v = v.bounds
+widened_own Gaps e v = v.bounds
+
+-- the event with these bounds
+abbrev pub widened_event : What → ℕ → Event → Event
+widened_event what e v = record { name = v.name; clock = v.clock; stamp = v.stamp; bounds = widened_own what e v }
+
+-- all events widened by e; where other numbers are widened than those of stamps they stay
+abbrev pub widened_events : What → ℕ → List Event → List Event
+widened_events (Delays which) e vs = vs
+widened_events (Least which) e vs = vs
+widened_events (Stamps which) e vs = map (widened_event (Stamps which) e) vs
+widened_events (Rates which) e vs = vs
+widened_events Gaps e vs = vs
+
 -- ---- follows
 -- what is left of a gap
 abbrev pub gap_left : What → ℕ → ℕ → ℕ
@@ -116,4 +143,4 @@ widened_message what events e m = with_delays (least_left what events e m) (adde
 
 -- the problem in which what is named is widened by e: ns, or parts per billion of a rate; all else is the same
 abbrev pub widened : What → ProblemLists → ℕ → ProblemLists
-widened what p e = record { clocks = widened_clocks what e p.clocks; follows = widened_follows what e p.follows; events = p.events; messages = map (widened_message what p.events e) p.messages }
+widened what p e = record { clocks = widened_clocks what e p.clocks; follows = widened_follows what e p.follows; events = widened_events what e p.events; messages = map (widened_message what p.events e) p.messages }

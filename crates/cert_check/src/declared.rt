@@ -2,13 +2,13 @@
 ghost use Rattle.std.specs.Prelude.{◌≡◌, ◌<◌, ◌^◌, ◌+◌, ◌*◌, ℕ, pos, Some, length, Contains, unsigned_abs};
 ghost use Rattle.problem_model.specs.declared.items.Bound.TheVariants as bounds;
 ghost use Rattle.problem_model.specs.Problem.{ProblemLists, IsWellFormed};
-ghost use Rattle.problem_model.specs.Bounds.{Constraint, Declares, ClockAt, EventAt, IsReading};
+ghost use Rattle.problem_model.specs.Bounds.{Constraint, Declares, ClockAt, EventAt, IsReading, early_of, late_of};
 ghost use Rattle.problem.specs.Line.{HasMessageAt};
 ghost use Rattle.problem_model.specs.declared.items.Follow.{Follow};
 ghost use Rattle.cert_check.specs.Walks.{constraint, HasMessageBetween, LeadsTo};
 ghost use Rattle.cert_check.specs.Widened.{with_delays, widened};
 
-use crate::what::{What, added_to, clock_in, gap_left, least_left};
+use crate::what::{What, added_to, clock_in, gap_left, least_left, widened_event};
 use atto::{Nano, delay_units, span_least, span_most};
 use problem::{NearestFollow, Problem};
 use problem_model::{Bound, Clock, Event, Message, Node};
@@ -67,6 +67,26 @@ fn shortest(place: u32, clock: &Clock, s: Nano, t: Nano) -> Declaration
     }
 }
 
+/// How far behind the reading of its stamp an event may lie.
+pub fn late_of(event: &Event, clock: &Clock) -> Nano
+    ensures { result ≡ late_of clock.now event.now }
+{
+    match event.bounds {
+        None => clock.late,
+        Some(own) => own.late,
+    }
+}
+
+/// How far before it.
+pub fn early_of(event: &Event, clock: &Clock) -> Nano
+    ensures { result ≡ early_of clock.now event.now }
+{
+    match event.bounds {
+        None => clock.early,
+        Some(own) => own.early,
+    }
+}
+
 // How long an event may come behind the reading of its stamp.
 fn latest(place: u32, event: &Event, clock: &Clock) -> Declaration
     ensures declares { (p : ProblemLists) → EventAt p place event.now → ClockAt p event.now.clock clock.now → Declares p (bounds.Late place) (constraint result) }
@@ -75,7 +95,7 @@ fn latest(place: u32, event: &Event, clock: &Clock) -> Declaration
     Declaration {
         from: Node::Reading(event.clock, event.stamp),
         to: Node::Event(place),
-        weight: delay_units(clock.late),
+        weight: delay_units(late_of(event, clock)),
     }
 }
 
@@ -87,7 +107,7 @@ fn earliest(place: u32, event: &Event, clock: &Clock) -> Declaration
     Declaration {
         from: Node::Event(place),
         to: Node::Reading(event.clock, event.stamp),
-        weight: delay_units(clock.early),
+        weight: delay_units(early_of(event, clock)),
     }
 }
 
@@ -123,6 +143,15 @@ fn event_at(p: &Problem, place: u32) -> &Event
     ensures clock { result.now.clock < length p.now.clocks }
 {
     &p.events()[place as usize]
+}
+
+// The event at a place of a problem that is widened.
+fn event_in(p: &Problem, what: What, extra: Nano, place: u32) -> Event
+    requires { place < length p.now.events }
+    ensures event { EventAt (widened what p.now extra) place result }
+    ensures clock { result.clock < length p.now.clocks }
+{
+    widened_event(what, extra, event_at(p, place))
 }
 
 // The place of the message from one event to another.
@@ -216,12 +245,12 @@ pub fn declared_in(p: &Problem, what: What, extra: Nano, bound: &Bound) -> Decla
         Bound::SpanMost { clock, s, t } => longest(clock, &clock_in(p, what, extra, clock), s, t),
         Bound::SpanLeast { clock, s, t } => shortest(clock, &clock_in(p, what, extra, clock), s, t),
         Bound::Late(place) => {
-            let event = event_at(p, place);
-            latest(place, event, &clock_in(p, what, extra, event.clock))
+            let event = event_in(p, what, extra, place);
+            latest(place, &event, &clock_in(p, what, extra, event.clock))
         }
         Bound::Early(place) => {
-            let event = event_at(p, place);
-            earliest(place, event, &clock_in(p, what, extra, event.clock))
+            let event = event_in(p, what, extra, place);
+            earliest(place, &event, &clock_in(p, what, extra, event.clock))
         }
         Bound::Follow {
             earlier,

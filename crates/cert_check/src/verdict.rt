@@ -13,8 +13,8 @@ ghost use Rattle.cert_check.specs.Verdict.{Judges, IsVerdict, AreTimes};
 ghost use Rattle.cert_check.specs.Sizes.{IsSmallVerdict};
 ghost use Rattle.cert_check.specs.Widened.{with_delays, widened};
 
-use crate::declared::{listed_bound, widened_units};
-use crate::what::{Links, What, added_to, clock_in, gap_left, least_left, no_extra};
+use crate::declared::{early_of, late_of, listed_bound, widened_units};
+use crate::what::{Links, What, added_to, clock_in, gap_left, least_left, no_extra, widened_event};
 use atto::{Nano, Units, delay_units, span_least, span_most};
 use cert::Execution;
 use problem::Problem;
@@ -82,8 +82,18 @@ fn judge_stamp(place: u32, event: &Event, clock: &Clock, reading: Units, time: U
         → Judges p x (Late place ∷ Early place ∷ []) result }
     ensures small { IsSmallVerdict result }
 {
-    match judge(Bound::Late(place), delay_units(clock.late), reading, time) {
-        Verdict::Obeys => judge(Bound::Early(place), delay_units(clock.early), time, reading),
+    match judge(
+        Bound::Late(place),
+        delay_units(late_of(event, clock)),
+        reading,
+        time,
+    ) {
+        Verdict::Obeys => judge(
+            Bound::Early(place),
+            delay_units(early_of(event, clock)),
+            time,
+            reading,
+        ),
         broken => broken,
     }
 }
@@ -214,7 +224,8 @@ fn judge_stamps(p: &Problem, what: What, extra: Nano, e: &Execution) -> Verdict
         let clock = clock_in(p, what, extra, event.clock);
         let reading = reading_time(p, e, place_of(p, event.clock, event.stamp));
         let time = event_time(p, e, place as u32);
-        match judge_stamp(place as u32, event, &clock, reading, time) {
+        let wide = widened_event(what, extra, event);
+        match judge_stamp(place as u32, &wide, &clock, reading, time) {
             Verdict::Obeys => {}
             broken => return broken,
         }

@@ -1,11 +1,11 @@
 // What of a problem is widened.
 ghost use Rattle.std.specs.Prelude.{◌≡◌, ◌<◌, ◌≤◌, ◌+◌, ◌-◌, ◌^◌, min, length};
 ghost use Rattle.problem_model.specs.Bounds.{ClockAt};
-ghost use Rattle.cert_check.specs.Widened.{is_on, joins, has_clock, least_left, added_to, gap_left, wider_rate, with_wider_rate, with_wider_stamps, widened_clock, widened};
+ghost use Rattle.cert_check.specs.Widened.{is_on, joins, has_clock, least_left, added_to, gap_left, wider_rate, with_wider_rate, with_wider_stamps, widened_clock, wider_bounds, widened_own, widened_event, widened};
 
 use atto::{Nano, Rate};
 use problem::Problem;
-use problem_model::{Clock, Message};
+use problem_model::{Clock, Event, Message, StampBounds};
 
 /// Clocks of a problem.
 #[derive(Clone, Copy, Debug, PartialEq, Eq)]
@@ -137,6 +137,51 @@ fn widened_clock(what: What, extra: Nano, place: u32, clock: &Clock) -> Clock
             }
         }
         What::Gaps => *clock,
+    }
+}
+
+// An event's own bounds, so many ns greater.
+fn wider_bounds(own: Option<StampBounds>, extra: Nano) -> Option<StampBounds>
+    ensures { result ≡ wider_bounds extra own }
+{
+    match own {
+        None => None,
+        Some(own) => Some(StampBounds {
+            early: longer(own.early, extra),
+            late: longer(own.late, extra),
+        }),
+    }
+}
+
+// The own bounds of an event, widened by so much.
+fn widened_own(what: What, extra: Nano, event: &Event) -> Option<StampBounds>
+    ensures { result ≡ widened_own what extra event.now }
+{
+    match what {
+        What::Delays(_) => event.bounds,
+        What::Least(_) => event.bounds,
+        What::Stamps(which) => {
+            if has_clock(which, event.clock) {
+                wider_bounds(event.bounds, extra)
+            } else {
+                event.bounds
+            }
+        }
+        What::Rates(_) => event.bounds,
+        What::Gaps => event.bounds,
+    }
+}
+
+/// The event, widened by so much.
+pub fn widened_event(what: What, extra: Nano, event: &Event) -> Event
+    ensures { result ≡ widened_event what extra event.now }
+{
+    let bounds: Option<StampBounds> = widened_own(what, extra, event);
+    Event {
+        name: event.name,
+        clock: event.clock,
+        stamp: event.stamp,
+        bounds,
     }
 }
 

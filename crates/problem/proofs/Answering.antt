@@ -1,7 +1,8 @@
 -- What the reader answers, from what the text answers.
-use Rattle.std.proofs.Common.{◌≡◌, ◌≢◌, ◌≤◌, ◌+◌, ℕ, List, [], ◌∷◌, ◌++◌, ◌⊎◌, inl, inr, length, get_or, drop, Some, None, Ok, Err, codes, refl, sym, ◌∙◌, ap, arith, append_assoc, length-append}
+use Rattle.std.proofs.Common.{◌≡◌, ◌≢◌, ◌≤◌, ◌+◌, ℕ, List, [], ◌∷◌, ◌++◌, ◌⊎◌, inl, inr, length, get_or, drop, AllPairs, Bool, true, false, is_some, Some, None, Ok, Err, codes, refl, sym, ◌∙◌, ap, arith, append_assoc, length-append}
 use Rattle.std.proofs.lemmas.Bool.{cases_lt}
-use Rattle.std.specs.List.{flat_map}
+use Rattle.std.specs.List.{flat_map, AllByRecursion}
+use Rattle.std.proofs.lemmas.List.Elements.{recursion_from_All}
 use Rattle.line_format.specs.Words.{words, line_of}
 use Rattle.line_format.specs.Cut.{cut}
 use Rattle.line_format.specs.Format.{Answer, Answers, Takes, head_line, whole_text, most_text_bytes}
@@ -13,15 +14,17 @@ use Rattle.line_format.specs.declared.fault.LineError.TheVariants as errors
 use Rattle.line_format.specs.declared.fault.Taken.TheVariants as taken
 use Rattle.line_format.proofs.Reading.{Stands, fault_answers, cut_answers, end_answers, more_answers, head_answers, stands_first}
 use Rattle.problem_model.specs.declared.items.Follow.{Follow}
+use Rattle.problem_model.specs.declared.items.Event.{Event}
 use Rattle.problem_model.specs.Problem.{ProblemLists, IsProblem, empty_problem}
-use Rattle.problem_model.specs.ProblemText.{problem_text, problem_head, followed_head, head_words, clock_line, follow_line, event_line, message_line}
+use Rattle.problem_model.specs.ProblemText.{problem_text, problem_head, followed_head, own_head, plain_head, have_bounds, head_words, clock_line, follow_line, event_line, message_line}
 use Rattle.problem.specs.declared.errors.ProblemError.TheVariants as problems
-use Rattle.problem.specs.Line.{head_with, IsInOrder, IsSaid, HasFollow, open_text, open_lines, problem_format}
+use Rattle.problem.specs.Line.{head_with, AreBounded, IsInOrder, IsSaid, HasItsOwn, open_text, open_lines, problem_format}
 use Rattle.problem.proofs.Taking.{clocks_in_order}
+use Rattle.problem.proofs.Growing.{alike_as_first}
 use Rattle.problem.specs.declared.version.Version.{Version}
-use Rattle.problem.specs.declared.version.Version.TheVariants.{First, Second}
+use Rattle.problem.specs.declared.version.Version.TheVariants.{First, Second, Third}
 use Rattle.problem.specs.Faults.{fault_of_kind, text_fault}
-use Rattle.problem.specs.Reading.{IsSecond, AnswersProblem, Reads}
+use Rattle.problem.specs.Reading.{IsSecond, IsThird, AnswersProblem, Reads}
 use Rattle.problem.proofs.OneLine.{line_lacks}
 
 -- ---- which version a text is of
@@ -53,34 +56,70 @@ front_or_not (x ∷ front) (y ∷ text) = elim (same_or_not y x) [
 pub second_or_not : (text : List ℕ) → IsSecond text ⊎ (IsSecond text → ⊥)
 second_or_not text = front_or_not (line_of followed_head) text
 
--- a text with the head of the first version has not that of the second
+pub third_or_not : (text : List ℕ) → IsThird text ⊎ (IsThird text → ⊥)
+third_or_not text = front_or_not (line_of own_head) text
+
+-- a text has the head of one version
 pub first_not_second : (text lines : List ℕ) → text ≡ line_of problem_head ++ lines → IsSecond text → ⊥
 first_not_second text lines is second = let h : 49 ≡ 50 = ap (λ xs. get_or xs 8 0) (sym is ∙ second.1) in omega (arith, h)
 
+first_not_third : (text lines : List ℕ) → text ≡ line_of problem_head ++ lines → IsThird text → ⊥
+first_not_third text lines is third = let h : 49 ≡ 51 = ap (λ xs. get_or xs 8 0) (sym is ∙ third.1) in omega (arith, h)
+
+second_not_third : (text : List ℕ) → IsSecond text → IsThird text → ⊥
+second_not_third text second third = let h : 50 ≡ 51 = ap (λ xs. get_or xs 8 0) (sym second.1 ∙ third.1) in omega (arith, h)
+
 -- what the format of its head answers is the answer of the text
 pub version_answers : (version : Version) (text lines : List ℕ) (answer : Answer ProblemLists) → text ≡ head_line (problem_format version) ++ lines → Answers (problem_format version) text answer → AnswersProblem text answer
-version_answers First text lines answer is answers = record { second = λ second. absurd (first_not_second text lines is second); first = λ other. answers }
-version_answers Second text lines answer is answers = record { second = λ second. answers; first = λ other. absurd (other (lines, is)) }
+version_answers First text lines answer is answers = record {
+  second = λ second. absurd (first_not_second text lines is second);
+  third = λ third. absurd (first_not_third text lines is third);
+  first = λ other another. answers;
+}
+version_answers Second text lines answer is answers = record {
+  second = λ second. answers;
+  third = λ third. absurd (second_not_third text (lines, is) third);
+  first = λ other another. absurd (other (lines, is));
+}
+version_answers Third text lines answer is answers = record {
+  second = λ second. absurd (second_not_third text second (lines, is));
+  third = λ third. answers;
+  first = λ other another. absurd (another (lines, is));
+}
 
 -- the problem that says nothing has the head alone
 pub start_is : (version : Version) → (problem_format version).text_of empty_problem ≡ head_line (problem_format version)
 start_is First = refl
 start_is Second = refl
+start_is Third = refl
 
 -- ---- texts that are found
 regrouped : (h a b c e : List ℕ) → (h ++ a ++ b ++ c) ++ e ≡ h ++ a ++ b ++ c ++ e
 regrouped h a b c e = simp append_assoc
 
-head_is : (version : Version) (p : ProblemLists) → IsSaid version p → HasFollow version p → head_with version ≡ head_words p.follows
-head_is First p said has = sym (ap head_words said.1)
-head_is Second p said has = followed p.follows has
+-- whether some event has bounds of its own, where all have or none has
+none_bounded : (events : List Event) → AllByRecursion (λ (e : Event). is_some e.bounds ≡ false) events → have_bounds events ≡ false
+none_bounded [] all = refl
+none_bounded (e ∷ events) all = rw (all.0, none_bounded events all.1) refl
+
+each_bounded : (events : List Event) → AllByRecursion (λ (e : Event). is_some e.bounds ≡ true) events → events ≢ [] → have_bounds events ≡ true
+each_bounded [] all some = absurd (some refl)
+each_bounded (e ∷ events) all some = rw all.0 refl
+
+plain_is : (p : ProblemLists) (head : List (List ℕ)) → AreBounded false p.events → head ≡ plain_head p.follows → head ≡ head_words p.follows p.events
+plain_is p head bounded is = rw (none_bounded p.events (recursion_from_All (λ e. is_some e.bounds ≡ false) p.events bounded)) is
+
+head_is : (version : Version) (p : ProblemLists) → IsSaid version p → HasItsOwn version p → head_with version ≡ head_words p.follows p.events
+head_is First p said has = plain_is p problem_head said.1.1 (sym (ap plain_head said.1.0))
+head_is Second p said has = plain_is p followed_head said.1.1 (followed p.follows has)
   where
-    followed : (follows : List Follow) → follows ≢ [] → followed_head ≡ head_words follows
+    followed : (follows : List Follow) → follows ≢ [] → followed_head ≡ plain_head follows
     followed [] some = absurd (some refl)
     followed (f ∷ follows) some = refl
+head_is Third p said has = rw (each_bounded p.events (recursion_from_All (λ e. is_some e.bounds ≡ true) p.events said.1.1) has) refl
 
 -- the text with its end is that of the problem
-pub whole_is : (version : Version) (p : ProblemLists) → IsSaid version p → HasFollow version p → whole_text (problem_format version) p ≡ problem_text p
+pub whole_is : (version : Version) (p : ProblemLists) → IsSaid version p → HasItsOwn version p → whole_text (problem_format version) p ≡ problem_text p
 whole_is version p said has =
     let rest = flat_map (follow_line p.clocks) p.follows ++ flat_map (event_line p.clocks) p.events in
     let end = line_of (codes "end" ∷ []) in
@@ -94,26 +133,46 @@ found_is version text p found = (found.0, found.1.0, found.3 ∙ whole_is versio
 pub found_reads : (text : List ℕ) (p : ProblemLists) → AnswersProblem text (Found p) → Reads text (Ok p)
 found_reads text p answers = elim (second_or_not text) [
   | inl second ↦ found_is Second text p (answers.second second)
-  | inr other ↦ found_is First text p (answers.first other)
+  | inr other ↦ elim (third_or_not text) [
+    | inl third ↦ found_is Third text p (answers.third third)
+    | inr another ↦ found_is First text p (answers.first other another)
+  ]
 ]
 
--- whether there is a follow tells the version
-version_for : (p : ProblemLists) → (version : Version) × IsInOrder version p × HasFollow version p
-version_for p = elim (none_or_some p.follows) [
-  | inl none ↦ (First, none, tt)
-  | inr some ↦ (Second, (λ none. absurd (some none)), some)
+-- whether events have bounds, and whether there is a follow, tells the version
+abbrev IsOf : ProblemLists → Type 0
+IsOf p = (version : Version) × IsInOrder version p × HasItsOwn version p
+
+plain_version : (p : ProblemLists) → AreBounded false p.events → IsOf p
+plain_version p bounded = elim (none_or_some p.follows) [
+  | inl none ↦ (First, (none, bounded), tt)
+  | inr some ↦ (Second, ((λ none. absurd (some none)), bounded), some)
 ]
   where
     none_or_some : (follows : List Follow) → (follows ≡ []) ⊎ (follows ≢ [])
     none_or_some [] = inl refl
     none_or_some (f ∷ follows) = inr (λ is. absurd cc)
 
+own_version : (p : ProblemLists) → p.events ≢ [] → AreBounded true p.events → IsOf p
+own_version p some bounded = (Third, ((λ none. absurd (some none)), bounded), some)
+
+version_by : (p : ProblemLists) (events : List Event) → p.events ≡ events → AllPairs (λ a b. is_some a.bounds ≡ is_some b.bounds) p.events → IsOf p
+version_by p [] is alike = plain_version p (rw is (λ k d inside. absurd (omega (arith, inside))))
+version_by p (e ∷ events) is alike = by_first (is_some e.bounds) refl
+  where
+    by_first : (own : Bool) → is_some e.bounds ≡ own → IsOf p
+    by_first false first = plain_version p (alike_as_first e events p.events false is alike first)
+    by_first true first = own_version p (λ none. let no : e ∷ events ≡ [] = sym is ∙ none in absurd cc) (alike_as_first e events p.events true is alike first)
+
+version_for : (p : ProblemLists) → IsProblem p → IsOf p
+version_for p lawful = version_by p p.events refl lawful.formed.bounds_alike
+
 headed : (h a b c e : List ℕ) → (h ++ a ++ b ++ c) ++ e ≡ h ++ (a ++ b ++ c ++ e)
 headed h a b c e = simp append_assoc
 
 pub reads_found : (text : List ℕ) (p : ProblemLists) → Reads text (Ok p) → AnswersProblem text (Found p)
 reads_found text p reads =
-    let v = version_for p in
+    let v = version_for p reads.1 in
     let is : text ≡ whole_text (problem_format v.0) p = reads.2 ∙ sym (whole_is v.0 p (reads.1, v.1) v.2) in
     version_answers v.0 text _ (Found p)
     (is ∙ headed (line_of (head_with v.0)) (flat_map clock_line p.clocks) (flat_map (follow_line p.clocks) p.follows ++ flat_map (event_line p.clocks) p.events) (flat_map (message_line p.events) p.messages) (line_of (codes "end" ∷ [])))
@@ -152,7 +211,8 @@ module _ (version : Version) (lines : List ℕ) where
 pub head_reads : (text : List ℕ) → length text ≤ most_text_bytes → ((version : Version) (more : List ℕ) → text ≡ head_line (problem_format version) ++ more → ⊥) → Reads text (Err (problems.Syntax 1))
 head_reads text short none = record {
   second = λ second. absurd (none Second second.0 second.1);
-  first = λ other. head_answers (problem_format First) line_lacks text short (none First);
+  third = λ third. absurd (none Third third.0 third.1);
+  first = λ other another. head_answers (problem_format First) line_lacks text short (none First);
 }
 
 -- ---- how many lines there are

@@ -9,11 +9,12 @@ use Rattle.problem_model.specs.ProblemText.{most_word}
 use Rattle.line_format.specs.Cut.{Lacks, fields}
 use Rattle.line_format.proofs.Lacking.{lacks_low, all_high}
 use Rattle.line_format.proofs.Fields.{fields_again, fields_take}
-use Rattle.problem.specs.Written.{Spells, ClockParts, ClockSays, NoClock, clock_rest, FollowParts, FollowSays, NoFollow, follow_rest, EventParts, EventSays, NoEvent, event_rest, SpellsMost, MessageParts, MessageSays, NoMessage, message_rest}
+use Rattle.problem.specs.Written.{Spells, ClockParts, ClockSays, NoClock, clock_rest, FollowParts, FollowSays, NoFollow, follow_rest, EventParts, EventSays, NoEvent, event_rest, OwnParts, OwnSays, NoOwn, own_rest, SpellsMost, MessageParts, MessageSays, NoMessage, message_rest}
 use Rattle.problem.specs.declared.words.MessageWords.{MessageWords}
 use Rattle.problem.specs.declared.words.ClockWords.{ClockWords}
 use Rattle.problem.specs.declared.words.FollowWords.{FollowWords}
 use Rattle.problem.specs.declared.words.EventWords.{EventWords}
+use Rattle.problem.specs.declared.words.OwnWords.{OwnWords}
 
 -- ---- what words lack
 pub decimal_lacks : (d n : ℕ) → d ≤ 32 → Lacks d (decimal_of n)
@@ -120,6 +121,41 @@ event_says rest a b c w three parts = record {
   clock_named = parts.clock_named;
   is = (fields_take 2 rest (a ∷ b ∷ c ∷ []) three).0 ∙ rw (parts.name_is, parts.clock_is, parts.stamp_is.is) refl;
   stamp_is = parts.stamp_is.counts;
+}
+
+-- ---- events with bounds of their own
+pub own_fields : (rest name clock : List ℕ) (s e t : ℕ) → IsEventName name → IsClockName clock → rest ≡ own_rest name clock s e t →
+    fields 4 rest ≡ Some (name ∷ clock ∷ decimal_of s ∷ decimal_of e ∷ decimal_of t ∷ [])
+own_fields rest name clock s e t named clock_named is =
+    rw is (
+    fields_again 4 (name ∷ clock ∷ decimal_of s ∷ decimal_of e ∷ decimal_of t ∷ []) refl (
+      event_name_lacks 32 name (omega arith) named,
+      (clock_name_lacks 32 clock (omega arith) clock_named, (decimal_lacks 32 s (omega arith), (decimal_lacks 32 e (omega arith), tt))),
+    )
+    )
+
+pub own_not_five : (rest : List ℕ) → fields 4 rest ≡ None → NoOwn rest
+own_not_five rest none name clock s e t named clock_named is = let f = own_fields rest name clock s e t named clock_named is in cc
+
+pub own_not_parts : (rest a b c d e : List ℕ) → fields 4 rest ≡ Some (a ∷ b ∷ c ∷ d ∷ e ∷ []) →
+    ((s : ℕ) (y : ℕ) (t : ℕ) → IsEventName a → IsClockName b → c ≡ decimal_of s → d ≡ decimal_of y → e ≡ decimal_of t → ⊥) → NoOwn rest
+own_not_parts rest a b c d e five none name clock s y t named clock_named is =
+    let f = own_fields rest name clock s y t named clock_named is in
+    let a-is : name ≡ a = cc in
+    let b-is : clock ≡ b = cc in
+    none s y t (rw a-is at named) (rw b-is at clock_named) (cc) (cc) (cc)
+
+pub own_says : (rest a b c d e : List ℕ) (w : OwnWords) → fields 4 rest ≡ Some (a ∷ b ∷ c ∷ d ∷ e ∷ []) → OwnParts a b c d e w → OwnSays rest w
+own_says rest a b c d e w five parts = record {
+  stamp = parts.stamp_is.m;
+  early = parts.early_is.m;
+  late = parts.late_is.m;
+  named = parts.named;
+  clock_named = parts.clock_named;
+  is = (fields_take 4 rest (a ∷ b ∷ c ∷ d ∷ e ∷ []) five).0 ∙ rw (parts.name_is, parts.clock_is, parts.stamp_is.is, parts.early_is.is, parts.late_is.is) refl;
+  stamp_is = parts.stamp_is.counts;
+  early_is = parts.early_is.counts;
+  late_is = parts.late_is.counts;
 }
 
 -- ---- messages

@@ -1,5 +1,6 @@
 -- A problem that grows keeps its rules.
-use Rattle.std.proofs.Common.{◌≡◌, ◌≢◌, ◌<◌, ◌^◌, ℕ, suc, List, [], ◌∷◌, ◌++◌, length, map, slice_get, Some, All, zero, refl, sym, ap, arith, length-append}
+use Rattle.std.proofs.Common.{◌≡◌, ◌≢◌, ◌<◌, ◌^◌, ℕ, suc, List, [], ◌∷◌, ◌++◌, length, map, slice_get, get_or, Some, is_some, All, AllPairs, Bool, true, false, IsTrue, ◌↔◌, zero, refl, sym, ◌∙◌, ap, arith, length-append}
+use mathlib.Core.Bool.{beq}
 use Rattle.std.specs.List.{AllByRecursion}
 use Rattle.std.proofs.lemmas.List.Quantifiers.{all_pairs_push}
 use Rattle.std.proofs.lemmas.List.Elements.{All-push, All-from_recursion, recursion_from_All}
@@ -9,7 +10,7 @@ use Rattle.problem_model.specs.declared.items.Event.{Event}
 use Rattle.problem_model.specs.declared.items.Follow.{Follow}
 use Rattle.problem_model.specs.declared.items.Message.{Message}
 use Rattle.problem_model.specs.Name.{IsClockName, IsEventName}
-use Rattle.problem_model.specs.Problem.{ProblemLists, IsProblem, ClockFits, MessageFits, LeadsOn}
+use Rattle.problem_model.specs.Problem.{ProblemLists, IsProblem, ClockFits, EventFits, MessageFits, LeadsOn}
 use Rattle.problem_model.specs.ChainNumbers.{with_follow}
 use Rattle.problem.specs.Growing.{IsNewClock, IsNewFollow, IsNewEvent, IsNewPair, IsMessageOfNewPair, HasRoomForClock, HasRoomForEvent, HasRoomForMessage, with_clock, with_event, with_message}
 use Rattle.problem.specs.Inside.{AreProblemItems, AreLinks}
@@ -51,6 +52,44 @@ pub pair_at_none : (ms : List Message) (s r : ℕ) → All (λ a. (a.send ≡ s)
 unfolding first_of_pair second_of_pair
 pair_at_none ms s r all = at_none pair_of ms (s, r) (λ k d inside e. all k d inside (ap first_of_pair e) (ap second_of_pair e))
 
+-- ---- the bounds of events
+-- each has bounds of its own as the first one has, or none
+pub as_first : (e : Event) (es : List Event) → AllPairs (λ a b. is_some a.bounds ≡ is_some b.bounds) (e ∷ es) → All (λ x. is_some x.bounds ≡ is_some e.bounds) (e ∷ es)
+as_first e es pairs = λ k d inside. at_place k d inside
+  where
+    at_place : (k : ℕ) (d : Event) → k < length (e ∷ es) → is_some (get_or (e ∷ es) k d).bounds ≡ is_some e.bounds
+    at_place zero d inside = refl
+    at_place (suc k) d inside = sym (pairs zero (suc k) d (omega arith) inside)
+
+-- so whether all have them as another has is told by the first
+pub alike_as_first : (x : Event) (xs es : List Event) (own : Bool) → es ≡ x ∷ xs → AllPairs (λ a b. is_some a.bounds ≡ is_some b.bounds) es → is_some x.bounds ≡ own → All (λ e. is_some e.bounds ≡ own) es
+alike_as_first x xs es own is pairs same = rw is (λ k d inside. as_first x xs (rw is at pairs) k d inside ∙ same)
+
+pub first_of_alike : (x : Event) (xs es : List Event) (own : Bool) → es ≡ x ∷ xs → All (λ e. is_some e.bounds ≡ own) es → is_some x.bounds ≡ own
+first_of_alike x xs es own is all = let all' : All (λ (e : Event). is_some e.bounds ≡ own) (x ∷ xs) = rw is at all in all' zero x (omega arith)
+
+-- the test of the first one tells whether all have bounds of their own, or none has, as another one
+same_by : (a b : Bool) → IsTrue (beq a b) → a ≡ b
+same_by true true same = refl
+same_by false false same = refl
+same_by true false same = absurd cc
+same_by false true same = absurd cc
+
+by_same : (a b : Bool) → a ≡ b → IsTrue (beq a b)
+by_same true true same = refl
+by_same false false same = refl
+by_same true false same = absurd cc
+by_same false true same = absurd cc
+
+pub alike_by_first : (es : List Event) (x : Event) (a own : Bool) → slice_get es 0 ≡ Some x → AllPairs (λ a b. is_some a.bounds ≡ is_some b.bounds) es → a ≡ is_some x.bounds → IsTrue (beq a own) ↔ All (λ e. is_some e.bounds ≡ own) es
+alike_by_first [] x a own at pairs is = absurd cc
+alike_by_first (y ∷ es) x a own at pairs is =
+    let first : y ≡ x = cc in
+    let is' : a ≡ is_some y.bounds = is ∙ ap (λ (e : Event). is_some e.bounds) (sym first) in (
+      (λ yes. alike_as_first y es (y ∷ es) own refl pairs (sym is' ∙ same_by a own yes)),
+      (λ all. by_same a own (is' ∙ first_of_alike y es (y ∷ es) own refl all)),
+    )
+
 -- ---- the rules
 pub more_clock : (p : ProblemLists) (c : Clock) → IsProblem p → ClockFits c → IsNewClock p c → HasRoomForClock p → IsProblem (with_clock p c)
 more_clock p c lawful fits new room = record {
@@ -62,6 +101,7 @@ more_clock p c lawful fits new room = record {
     laters_differ = lawful.formed.laters_differ;
     event_names = lawful.formed.event_names;
     events_differ = lawful.formed.events_differ;
+    bounds_alike = lawful.formed.bounds_alike;
     event_clocks = λ k d inside. rw length-append (omega (arith, lawful.formed.event_clocks k d inside));
     sends = lawful.formed.sends;
     receives = lawful.formed.receives;
@@ -72,7 +112,7 @@ more_clock p c lawful fits new room = record {
     clocks_fit = All-push ClockFits p.clocks c lawful.fits.clocks_fit fits;
     clock_limit = grind (arith, length-append, room);
     gaps_fit = lawful.fits.gaps_fit;
-    stamps_fit = lawful.fits.stamps_fit;
+    events_fit = lawful.fits.events_fit;
     event_limit = lawful.fits.event_limit;
     messages_fit = lawful.fits.messages_fit;
     message_limit = lawful.fits.message_limit;
@@ -89,6 +129,7 @@ more_follow p f lawful fits new = record {
     laters_differ = all_pairs_push (λ a b. a.later ≢ b.later) p.follows f lawful.formed.laters_differ new.later_new;
     event_names = lawful.formed.event_names;
     events_differ = lawful.formed.events_differ;
+    bounds_alike = lawful.formed.bounds_alike;
     event_clocks = lawful.formed.event_clocks;
     sends = lawful.formed.sends;
     receives = lawful.formed.receives;
@@ -99,14 +140,14 @@ more_follow p f lawful fits new = record {
     clocks_fit = lawful.fits.clocks_fit;
     clock_limit = lawful.fits.clock_limit;
     gaps_fit = All-push (λ x. x.gap < 2 ^ 62) p.follows f lawful.fits.gaps_fit fits;
-    stamps_fit = lawful.fits.stamps_fit;
+    events_fit = lawful.fits.events_fit;
     event_limit = lawful.fits.event_limit;
     messages_fit = lawful.fits.messages_fit;
     message_limit = lawful.fits.message_limit;
   };
 }
 
-pub more_event : (p : ProblemLists) (e : Event) → IsProblem p → IsEventName e.name → e.stamp < 2 ^ 62 → IsNewEvent p e → HasRoomForEvent p → IsProblem (with_event p e)
+pub more_event : (p : ProblemLists) (e : Event) → IsProblem p → IsEventName e.name → EventFits e → IsNewEvent p e → HasRoomForEvent p → IsProblem (with_event p e)
 more_event p e lawful named fits new room = record {
   formed = record {
     clock_names = lawful.formed.clock_names;
@@ -116,6 +157,7 @@ more_event p e lawful named fits new room = record {
     laters_differ = lawful.formed.laters_differ;
     event_names = All-push (λ x. IsEventName x.name) p.events e lawful.formed.event_names named;
     events_differ = all_pairs_push (λ a b. a.name ≢ b.name) p.events e lawful.formed.events_differ new.new;
+    bounds_alike = all_pairs_push (λ a b. is_some a.bounds ≡ is_some b.bounds) p.events e lawful.formed.bounds_alike new.alike;
     event_clocks = All-push (λ x. x.clock < length p.clocks) p.events e lawful.formed.event_clocks new.clock;
     sends = λ k d inside. rw length-append (omega (arith, lawful.formed.sends k d inside));
     receives = λ k d inside. rw length-append (omega (arith, lawful.formed.receives k d inside));
@@ -126,7 +168,7 @@ more_event p e lawful named fits new room = record {
     clocks_fit = lawful.fits.clocks_fit;
     clock_limit = lawful.fits.clock_limit;
     gaps_fit = lawful.fits.gaps_fit;
-    stamps_fit = All-push (λ x. x.stamp < 2 ^ 62) p.events e lawful.fits.stamps_fit fits;
+    events_fit = All-push EventFits p.events e lawful.fits.events_fit fits;
     event_limit = grind (arith, length-append, room);
     messages_fit = lawful.fits.messages_fit;
     message_limit = lawful.fits.message_limit;
@@ -143,6 +185,7 @@ more_message p m lawful fits new room = record {
     laters_differ = lawful.formed.laters_differ;
     event_names = lawful.formed.event_names;
     events_differ = lawful.formed.events_differ;
+    bounds_alike = lawful.formed.bounds_alike;
     event_clocks = lawful.formed.event_clocks;
     sends = All-push (λ x. x.send < length p.events) p.messages m lawful.formed.sends new.sends;
     receives = All-push (λ x. x.receive < length p.events) p.messages m lawful.formed.receives new.receives;
@@ -153,7 +196,7 @@ more_message p m lawful fits new room = record {
     clocks_fit = lawful.fits.clocks_fit;
     clock_limit = lawful.fits.clock_limit;
     gaps_fit = lawful.fits.gaps_fit;
-    stamps_fit = lawful.fits.stamps_fit;
+    events_fit = lawful.fits.events_fit;
     event_limit = lawful.fits.event_limit;
     messages_fit = All-push MessageFits p.messages m lawful.fits.messages_fit fits;
     message_limit = grind (arith, length-append, room);
@@ -183,7 +226,7 @@ items_follow p ns es ps ls ls' fs f items fits new grown links =
       links_are = links;
     })
 
-pub items_event : (p : ProblemLists) (ns es es' : List (List ℕ)) (ps : List (ℕ × ℕ)) (ls : List Link) (vs : List Event) (e : Event) → AreProblemItems p ns es ps ls → IsEventName e.name → e.stamp < 2 ^ 62 → IsNewEvent p e → HasRoomForEvent p →
+pub items_event : (p : ProblemLists) (ns es es' : List (List ℕ)) (ps : List (ℕ × ℕ)) (ls : List Link) (vs : List Event) (e : Event) → AreProblemItems p ns es ps ls → IsEventName e.name → EventFits e → IsNewEvent p e → HasRoomForEvent p →
     vs ≡ p.events ++ e ∷ [] → es' ≡ es ++ e.name ∷ [] → AreProblemItems (record p { events = vs }) ns es' ps ls
 items_event p ns es es' ps ls vs e items named fits new room grown names =
     rw (grown, names) (record {
@@ -219,8 +262,8 @@ module _ (p : ProblemLists) (ns es : List (List ℕ)) (ps : List (ℕ × ℕ)) (
   pub known_event : (e : Event) (k : ℕ) → AreProblemItems p ns es ps ls → slice_get es k ≡ Some e.name → IsNewEvent p e → ⊥
   known_event e k items at new = at_none (λ x. x.name) p.events e.name new.new k (rw items.event_names_are at at)
 
-  pub unknown_event : (e : Event) → AreProblemItems p ns es ps ls → ((k : ℕ) → slice_get es k ≡ Some e.name → ⊥) → e.clock < length p.clocks → IsNewEvent p e
-  unknown_event e items none known = record { new = absent (λ x. x.name) p.events e.name (rw items.event_names_are at none); clock = known }
+  pub unknown_event : (e : Event) → AreProblemItems p ns es ps ls → ((k : ℕ) → slice_get es k ≡ Some e.name → ⊥) → e.clock < length p.clocks → All (λ x. is_some x.bounds ≡ is_some e.bounds) p.events → IsNewEvent p e
+  unknown_event e items none known alike = record { new = absent (λ x. x.name) p.events e.name (rw items.event_names_are at none); clock = known; alike = alike }
 
   pub still_new_event : (e : Event) → AreProblemItems p ns es ps ls → IsNewEvent p e → (k : ℕ) → slice_get es k ≡ Some e.name → ⊥
   still_new_event e items new k at = known_event e k items at new

@@ -1,8 +1,9 @@
 -- What taking a line makes of a problem, and why one is refused.
-use Rattle.std.proofs.Common.{◌≡◌, ◌<◌, ℕ, zero, suc, List, [], ◌∷◌, ◌++◌, length, map, slice_get, get_or, drop, Option, Some, Err, sym, ◌∙◌, ap, subst, arith, append_assoc, length-append, inl, inr}
+use Rattle.std.proofs.Common.{◌≡◌, ◌≢◌, ◌<◌, ◌+◌, All, Bool, true, false, is_some, None, ℕ, zero, suc, List, [], ◌∷◌, ◌++◌, length, map, slice_get, get_or, drop, Option, Some, Err, refl, sym, ◌∙◌, ap, subst, arith, append_assoc, length-append, inl, inr}
 use Rattle.std.specs.List.{flat_map}
 use Rattle.std.proofs.lemmas.Bool.{cases_lt}
 use Rattle.std.proofs.lemmas.List.{append-nil}
+use Rattle.std.proofs.lemmas.List.Elements.{All-push}
 use Rattle.std.proofs.lemmas.List.Concat.{flat_map-append, flat_map-cons}
 use Rattle.line_format.specs.Words.{words, line_of}
 use Rattle.line_format.specs.Format.{Grows, Takes, TakesLine, FaultIn, Refuses}
@@ -21,14 +22,16 @@ use Rattle.problem.specs.declared.errors.PushError.{PushError}
 use Rattle.problem.specs.declared.errors.PushError.TheVariants as pushes
 use Rattle.problem.specs.declared.words.ClockWords.{ClockWords}
 use Rattle.problem.specs.declared.version.Version.{Version}
-use Rattle.problem.specs.declared.version.Version.TheVariants.{First, Second}
+use Rattle.problem.specs.declared.version.Version.TheVariants.{First, Second, Third}
 use Rattle.problem.specs.declared.words.FollowWords.{FollowWords}
 use Rattle.problem.specs.declared.words.EventWords.{EventWords}
+use Rattle.problem.specs.declared.words.OwnWords.{OwnWords}
+use Rattle.problem.specs.declared.ranges.OwnStamp.{OwnStamp}
 use Rattle.problem.specs.declared.words.MessageWords.{MessageWords}
-use Rattle.problem.specs.Growing.{IsNewFollow, IsNewPair, HasRoomForMessage, Allows, with_clock, with_event, with_message}
-use Rattle.problem.specs.Line.{Line, line_words, IsSpelled, HasFollow, MayStand, NamesFit, NumbersFit, IsInOrder, HasClock, HasEvent, head_with, problem_format}
-use Rattle.problem.specs.Line.Line.{ClockLine, FollowLine, EventLine, MessageLine, EndLine}
-use Rattle.problem.specs.Written.{NanoIs, MostIs, clock_rest, event_rest, message_rest, ClockSays, FollowSays, EventSays, MessageSays, clock_body, follow_body, event_body, message_body}
+use Rattle.problem.specs.Growing.{IsNewFollow, IsNewEvent, IsNewPair, HasRoomForEvent, HasRoomForMessage, Allows, with_clock, with_event, with_message}
+use Rattle.problem.specs.Line.{Line, line_words, IsSpelled, HasItsOwn, MayStand, NamesFit, NumbersFit, MayFollow, AreBounded, are_own, IsInPlace, IsInOrder, HasClock, HasEvent, head_with, problem_format}
+use Rattle.problem.specs.Line.Line.{ClockLine, FollowLine, EventLine, OwnLine, MessageLine, EndLine}
+use Rattle.problem.specs.Written.{NanoIs, OwnIs, MostIs, clock_rest, event_rest, own_rest, message_rest, ClockSays, FollowSays, EventSays, OwnSays, MessageSays, clock_body, follow_body, event_body, message_body}
 use Rattle.problem.specs.Faults.{line_error}
 
 flat_map-one : {A : Type 0} (f : A → List ℕ) (a : A) → flat_map f (a ∷ []) ≡ f a
@@ -64,7 +67,7 @@ named_at (e ∷ es) (suc j) name d at = let r = named_at es j name d at in (omeg
 
 pub one_place : (p : ProblemLists) (j k : ℕ) (name : List ℕ) → IsProblem p → HasEvent p j name → HasEvent p k name → j ≡ k
 one_place p j k name sound at at' =
-    let d : Event = record { name = []; clock = 0; stamp = 0 } in
+    let d : Event = record { name = []; clock = 0; stamp = 0; bounds = None } in
     let a = named_at p.events j name d at in
     let b = named_at p.events k name d at' in
     elim (cases_lt j k) [
@@ -119,8 +122,13 @@ event_grows version p e no_messages = record {
 }
 
 pub event_taken : (version : Version) (p : ProblemLists) (name clock : List ℕ) (k t : ℕ) → p.messages ≡ [] → HasClock p k clock →
-    Grows (problem_format version) p (with_event p (record { name = name; clock = k; stamp = t })) (line_of (line_words (EventLine name clock t)))
-event_taken version p name clock k t no_messages at = rw (clock_name_at p.clocks k clock at) at (event_grows version p (record { name = name; clock = k; stamp = t }) no_messages)
+    Grows (problem_format version) p (with_event p (record { name = name; clock = k; stamp = t; bounds = None })) (line_of (line_words (EventLine name clock t)))
+event_taken version p name clock k t no_messages at = rw (clock_name_at p.clocks k clock at) at (event_grows version p (record { name = name; clock = k; stamp = t; bounds = None }) no_messages)
+
+pub own_taken : (version : Version) (p : ProblemLists) (name clock : List ℕ) (k : ℕ) (own : OwnStamp) (t e l : ℕ) → p.messages ≡ [] → HasClock p k clock → OwnIs (Some own) t e l →
+    Grows (problem_format version) p (with_event p (record { name = name; clock = k; stamp = own.stamp; bounds = Some own.bounds })) (line_of (line_words (OwnLine name clock t e l)))
+own_taken version p name clock k own t e l no_messages at is =
+    rw is.1 (rw (clock_name_at p.clocks k clock at) at (event_grows version p (record { name = name; clock = k; stamp = t; bounds = Some (record { early = e; late = l }) }) no_messages))
 
 message_sides : (h a b c l c' : List ℕ) → c' ≡ c ++ l → h ++ a ++ b ++ c' ≡ (h ++ a ++ b ++ c) ++ l
 message_sides h a b c l c' is = rw is (simp append_assoc)
@@ -137,13 +145,68 @@ message_taken version p ms send receive s r least l most m at at' least_is most_
     rw (grown, least_is.1, most_is.1) (rw (event_name_at p.events s send at, event_name_at p.events r receive at') at (message_grows version p (record { send = s; receive = r; least = l; most = m })))
 
 -- ---- the order of the lines
-pub clocks_in_order : (version : Version) (p : ProblemLists) → p.follows ≡ [] → p.events ≡ [] → p.messages ≡ [] → IsInOrder version p
-clocks_in_order First p no_follows no_events no_messages = no_follows
-clocks_in_order Second p no_follows no_events no_messages = λ none. (no_events, no_messages)
+-- events have bounds of their own in the third version alone
+pub only_third : (version : Version) → are_own version ≡ true → version ≡ Third
+only_third First own = absurd cc
+only_third Second own = absurd cc
+only_third Third own = refl
 
-pub more_in_order : (version : Version) (p q : ProblemLists) → HasFollow version p → q.follows ≡ p.follows → IsInOrder version p → IsInOrder version q
-more_in_order First p q has same ordered = same ∙ ordered
-more_in_order Second p q has same ordered = λ none. absurd (has (sym same ∙ none))
+no_events_bounded : (own : Bool) (events : List Event) → events ≡ [] → AreBounded own events
+no_events_bounded own events none = rw none (λ k d inside. absurd (omega (arith, inside)))
+
+pub clocks_in_order : (version : Version) (p : ProblemLists) → p.follows ≡ [] → p.events ≡ [] → p.messages ≡ [] → IsInOrder version p
+clocks_in_order version p no_follows no_events no_messages = (in_place version, no_events_bounded (are_own version) p.events no_events)
+  where
+    in_place : (version : Version) → IsInPlace version p
+    in_place First = no_follows
+    in_place Second = λ none. (no_events, no_messages)
+    in_place Third = λ none. no_messages
+
+pub follow_in_order : (version : Version) (p q : ProblemLists) → MayFollow version p → q.follows ≢ [] → q.events ≡ [] → q.messages ≡ [] → IsInOrder version q
+follow_in_order version p q may some no_events no_messages = (in_place version may, no_events_bounded (are_own version) q.events no_events)
+  where
+    in_place : (version : Version) → MayFollow version p → IsInPlace version q
+    in_place First may = absurd may
+    in_place Second may = λ none. (no_events, no_messages)
+    in_place Third may = λ none. no_messages
+
+pub event_in_order : (version : Version) (p q : ProblemLists) → are_own version ≡ false → HasItsOwn version p → q.follows ≡ p.follows → AreBounded false q.events → IsInOrder version p → IsInOrder version q
+event_in_order First p q plain has same bounded ordered = (same ∙ ordered.0, bounded)
+event_in_order Second p q plain has same bounded ordered = ((λ none. absurd (has (sym same ∙ none))), bounded)
+event_in_order Third p q plain has same bounded ordered = absurd cc
+
+pub more_in_order : (version : Version) (p q : ProblemLists) → HasItsOwn version p → q.follows ≡ p.follows → q.events ≡ p.events → IsInOrder version p → IsInOrder version q
+more_in_order version p q has same same' ordered = (in_place version has ordered.0, rw same' ordered.1)
+  where
+    in_place : (version : Version) → HasItsOwn version p → IsInPlace version p → IsInPlace version q
+    in_place First has placed = same ∙ placed
+    in_place Second has placed = λ none. absurd (has (sym same ∙ none))
+    in_place Third has placed = λ none. absurd (has (sym same' ∙ none))
+
+-- ---- why an event is refused
+-- names that fit make it new where the events there have bounds as it has
+fits_new_event : (p : ProblemLists) (e : Event) → AreBounded (is_some e.bounds) p.events → e.clock < length p.clocks → All (λ x. x.name ≢ e.name) p.events → IsNewEvent p e
+fits_new_event p e bounded known new = record { new = new; clock = known; alike = bounded }
+
+pub event_refused : (version : Version) (p q : ProblemLists) (name clock : List ℕ) (k stamp t : ℕ) (e : PushError) → AreBounded false p.events → HasClock p k clock → k < length p.clocks → NanoIs (Some stamp) t →
+    Allows (IsNewEvent p (record { name = name; clock = k; stamp = stamp; bounds = None })) (HasRoomForEvent p) (Err e) → TakesLine (problem_format version) p (EventLine name clock t) (Err (line_error e)) q
+event_refused version p q name clock k stamp t pushes.Name bounded at known is none = λ fits. none (fits_new_event p (record { name = name; clock = k; stamp = stamp; bounds = None }) bounded known fits.0)
+event_refused version p q name clock k stamp t pushes.Limit bounded at known is full = ((full.0.new, (k, at)), is.0, full.1)
+event_refused version p q name clock k stamp t pushes.Memory bounded at known is out = tt
+
+pub own_refused : (version : Version) (p q : ProblemLists) (name clock : List ℕ) (k : ℕ) (own : OwnStamp) (t y l : ℕ) (e : PushError) → AreBounded true p.events → HasClock p k clock → k < length p.clocks → OwnIs (Some own) t y l →
+    Allows (IsNewEvent p (record { name = name; clock = k; stamp = own.stamp; bounds = Some own.bounds })) (HasRoomForEvent p) (Err e) → TakesLine (problem_format version) p (OwnLine name clock t y l) (Err (line_error e)) q
+own_refused version p q name clock k own t y l pushes.Name bounded at known is none = λ fits. none (fits_new_event p (record { name = name; clock = k; stamp = own.stamp; bounds = Some own.bounds }) bounded known fits.0)
+own_refused version p q name clock k own t y l pushes.Limit bounded at known is full = ((full.0.new, (k, at)), is.0, full.1)
+own_refused version p q name clock k own t y l pushes.Memory bounded at known is out = tt
+
+-- one event more with bounds as the others have them
+pub more_bounded : (own : Bool) (es new : List Event) (e : Event) → new ≡ es ++ e ∷ [] → is_some e.bounds ≡ own → AreBounded own es → AreBounded own new
+more_bounded own es new e is same bounded = rw is (All-push (λ x. is_some x.bounds ≡ own) es e bounded same)
+
+-- a list with an item more is not empty
+pub some_more : (es new : List Event) (e : Event) → new ≡ es ++ e ∷ [] → new ≢ []
+some_more es new e is none = let count : length new ≡ length es + 1 = ap length is ∙ length-append es (e ∷ []) in let no : length new ≡ 0 = ap length none in omega (arith, count, no)
 
 -- ---- why a follow is refused
 module _ (version : Version) (p : ProblemLists) (lawful : IsProblem p) (x y : List ℕ) (c d gap : ℕ) (at : HasClock p c x) (at' : HasClock p d y) where
@@ -191,8 +254,8 @@ module _ (version : Version) (p : ProblemLists) (lawful : IsProblem p) (x y : Li
       let same = one_place p fits.0 s x lawful fits.2 at in
       let same' = one_place p fits.1 r y lawful fits.3 at' in
       record {
-        sends = let d : Event = record { name = []; clock = 0; stamp = 0 } in (named_at p.events s x d at).0;
-        receives = let d : Event = record { name = []; clock = 0; stamp = 0 } in (named_at p.events r y d at').0;
+        sends = let d : Event = record { name = []; clock = 0; stamp = 0; bounds = None } in (named_at p.events s x d at).0;
+        receives = let d : Event = record { name = []; clock = 0; stamp = 0; bounds = None } in (named_at p.events r y d at').0;
         two_ends = rw (← same, ← same') fits.4;
         new = rw (← same, ← same') fits.5;
       }
@@ -227,6 +290,7 @@ pub no_clock : (version : Version) (p : ProblemLists) (rest : List ℕ) → ((na
 no_clock version p rest none (ClockLine name s l e t) may spelled is = none name s l e t may spelled (ap (drop 6) is)
 no_clock version p rest none (FollowLine earlier later gap) may spelled is = absurd (let h = ap (λ xs. get_or xs 0 0) is in omega (arith, h))
 no_clock version p rest none (EventLine name clock stamp) may spelled is = absurd (let h = ap (λ xs. get_or xs 0 0) is in omega (arith, h))
+no_clock version p rest none (OwnLine name clock stamp early late) may spelled is = absurd (let h = ap (λ xs. get_or xs 0 0) is in omega (arith, h))
 no_clock version p rest none (MessageLine send receive least most) may spelled is = absurd (let h = ap (λ xs. get_or xs 0 0) is in omega (arith, h))
 no_clock version p rest none EndLine may spelled is = absurd (let h = ap (λ xs. get_or xs 0 0) is in omega (arith, h))
 
@@ -247,12 +311,13 @@ follow_line_err version p q rest w says e may r =
 
 -- ---- events
 pub no_event : (version : Version) (p : ProblemLists) (rest : List ℕ) → ((name clock : List ℕ) (stamp : ℕ) → MayStand version p (EventLine name clock stamp) → IsSpelled (EventLine name clock stamp) → rest ≡ event_rest name clock stamp → ⊥) →
-    FaultIn (problem_format version) p (event_body rest) kinds.Syntax
-no_event version p rest none (ClockLine name s l e t) may spelled is = absurd (let h = ap (λ xs. get_or xs 0 0) is in omega (arith, h))
-no_event version p rest none (FollowLine earlier later gap) may spelled is = absurd (let h = ap (λ xs. get_or xs 0 0) is in omega (arith, h))
-no_event version p rest none (EventLine name clock stamp) may spelled is = none name clock stamp may spelled (ap (drop 6) is)
-no_event version p rest none (MessageLine send receive least most) may spelled is = absurd (let h = ap (λ xs. get_or xs 0 0) is in omega (arith, h))
-no_event version p rest none EndLine may spelled is = absurd (let h = ap (λ xs. get_or xs 1 0) is in omega (arith, h))
+    ((name clock : List ℕ) (s e t : ℕ) → MayStand version p (OwnLine name clock s e t) → IsSpelled (OwnLine name clock s e t) → rest ≡ own_rest name clock s e t → ⊥) → FaultIn (problem_format version) p (event_body rest) kinds.Syntax
+no_event version p rest none none' (ClockLine name s l e t) may spelled is = absurd (let h = ap (λ xs. get_or xs 0 0) is in omega (arith, h))
+no_event version p rest none none' (FollowLine earlier later gap) may spelled is = absurd (let h = ap (λ xs. get_or xs 0 0) is in omega (arith, h))
+no_event version p rest none none' (EventLine name clock stamp) may spelled is = none name clock stamp may spelled (ap (drop 6) is)
+no_event version p rest none none' (OwnLine name clock s e t) may spelled is = none' name clock s e t may spelled (ap (drop 6) is)
+no_event version p rest none none' (MessageLine send receive least most) may spelled is = absurd (let h = ap (λ xs. get_or xs 0 0) is in omega (arith, h))
+no_event version p rest none none' EndLine may spelled is = absurd (let h = ap (λ xs. get_or xs 1 0) is in omega (arith, h))
 
 pub event_line_ok : (version : Version) (p q : ProblemLists) (rest : List ℕ) (w : EventWords) (says : EventSays rest w) → Grows (problem_format version) p q (line_of (line_words (EventLine w.name w.clock says.stamp))) → Grows (problem_format version) p q (event_body rest ++ 10 ∷ [])
 event_line_ok version p q rest w says grows = subst (λ (b : List ℕ). Grows (problem_format version) p q (b ++ 10 ∷ [])) (sym (ap event_body says.is)) grows
@@ -261,12 +326,20 @@ pub event_line_err : (version : Version) (p q : ProblemLists) (rest : List ℕ) 
 event_line_err version p q rest w says e may r =
     fault_of_line version p q (event_body rest) (EventLine w.name w.clock says.stamp) e may (says.named, says.clock_named) (ap event_body says.is) r
 
+pub own_line_ok : (version : Version) (p q : ProblemLists) (rest : List ℕ) (w : OwnWords) (says : OwnSays rest w) → Grows (problem_format version) p q (line_of (line_words (OwnLine w.name w.clock says.stamp says.early says.late))) → Grows (problem_format version) p q (event_body rest ++ 10 ∷ [])
+own_line_ok version p q rest w says grows = subst (λ (b : List ℕ). Grows (problem_format version) p q (b ++ 10 ∷ [])) (sym (ap event_body says.is)) grows
+
+pub own_line_err : (version : Version) (p q : ProblemLists) (rest : List ℕ) (w : OwnWords) (says : OwnSays rest w) (e : LineError) → MayStand version p (OwnLine w.name w.clock says.stamp says.early says.late) → TakesLine (problem_format version) p (OwnLine w.name w.clock says.stamp says.early says.late) (Err e) q → Takes (problem_format version) p (event_body rest) (Err e) q
+own_line_err version p q rest w says e may r =
+    fault_of_line version p q (event_body rest) (OwnLine w.name w.clock says.stamp says.early says.late) e may (says.named, says.clock_named) (ap event_body says.is) r
+
 -- ---- messages
 pub no_message : (version : Version) (p : ProblemLists) (rest : List ℕ) → ((send receive : List ℕ) (least : ℕ) (most : Option ℕ) → MayStand version p (MessageLine send receive least most) → IsSpelled (MessageLine send receive least most) → rest ≡ message_rest send receive least most → ⊥) →
     FaultIn (problem_format version) p (message_body rest) kinds.Syntax
 no_message version p rest none (ClockLine name s l e t) may spelled is = absurd (let h = ap (λ xs. get_or xs 0 0) is in omega (arith, h))
 no_message version p rest none (FollowLine earlier later gap) may spelled is = absurd (let h = ap (λ xs. get_or xs 0 0) is in omega (arith, h))
 no_message version p rest none (EventLine name clock stamp) may spelled is = absurd (let h = ap (λ xs. get_or xs 0 0) is in omega (arith, h))
+no_message version p rest none (OwnLine name clock stamp early late) may spelled is = absurd (let h = ap (λ xs. get_or xs 0 0) is in omega (arith, h))
 no_message version p rest none (MessageLine send receive least most) may spelled is = none send receive least most may spelled (ap (drop 8) is)
 no_message version p rest none EndLine may spelled is = absurd (let h = ap (λ xs. get_or xs 0 0) is in omega (arith, h))
 
@@ -276,7 +349,3 @@ message_line_ok version p q rest w says grows = subst (λ (b : List ℕ). Grows 
 pub message_line_err : (version : Version) (p q : ProblemLists) (rest : List ℕ) (w : MessageWords) (says : MessageSays rest w) (e : LineError) → MayStand version p (MessageLine w.send w.receive says.least says.most) → TakesLine (problem_format version) p (MessageLine w.send w.receive says.least says.most) (Err e) q → Takes (problem_format version) p (message_body rest) (Err e) q
 message_line_err version p q rest w says e may r =
     fault_of_line version p q (message_body rest) (MessageLine w.send w.receive says.least says.most) e may (says.send_named, says.receive_named) (ap message_body says.is) r
-
-pub follow_may : (version : Version) (p : ProblemLists) (x y : List ℕ) (g : ℕ) → version ≡ Second → p.events ≡ [] → p.messages ≡ [] → MayStand version p (FollowLine x y g)
-follow_may First p x y g is no_events no_messages = absurd (let other : First ≡ Second = is in cc)
-follow_may Second p x y g is no_events no_messages = (no_events, no_messages)

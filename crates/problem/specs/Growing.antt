@@ -1,5 +1,5 @@
 -- What may be added to a problem, by its names and places (`IsNew..`) and by the room, and what the problem then is.
-use Rattle.std.specs.Prelude.{ℕ, ◌≡◌, ◌≢◌, ◌<◌, ◌⊎◌, Contains, List, [], ◌∷◌, ◌++◌, All, length, Result, Ok, Err}
+use Rattle.std.specs.Prelude.{ℕ, ◌≡◌, ◌≢◌, ◌<◌, ◌⊎◌, Contains, List, [], ◌∷◌, ◌++◌, All, length, is_some, Result, Ok, Err}
 use Rattle.problem_model.specs.declared.items.Clock.{Clock}
 use Rattle.problem_model.specs.declared.items.Follow.{Follow}
 use Rattle.problem_model.specs.declared.items.Event.{Event}
@@ -23,10 +23,12 @@ pub record IsNewFollow (p : ProblemLists) (f : Follow) : Type 0 where
   pub earlier_new : All (λ g. g.earlier ≢ f.earlier) p.follows
   pub later_new : All (λ g. g.later ≢ f.later) p.follows
 
--- the name is that of no event, and the clock is known
+-- the name is that of no event, the clock is known, and it has bounds of its own where the events there have, and none
+-- where they have none
 pub record IsNewEvent (p : ProblemLists) (e : Event) : Type 0 where
   pub new : All (λ x. x.name ≢ e.name) p.events
   pub clock : e.clock < length p.clocks
+  pub alike : All (λ x. is_some x.bounds ≡ is_some e.bounds) p.events
 
 -- both places are those of events, of two, and no message goes from the one to the other
 pub record IsNewPair (p : ProblemLists) (send receive : ℕ) : Type 0 where

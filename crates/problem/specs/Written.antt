@@ -16,6 +16,8 @@ use Rattle.problem.specs.Line.Line.{ClockLine, FollowLine, MessageLine}
 use Rattle.problem.specs.declared.words.ClockWords.{ClockWords}
 use Rattle.problem.specs.declared.words.FollowWords.{FollowWords}
 use Rattle.problem.specs.declared.words.EventWords.{EventWords}
+use Rattle.problem.specs.declared.words.OwnWords.{OwnWords}
+use Rattle.problem.specs.declared.ranges.OwnStamp.{OwnStamp}
 use Rattle.problem.specs.declared.version.Version.{Version}
 use Rattle.problem.specs.declared.words.MessageWords.{MessageWords}
 
@@ -107,6 +109,36 @@ pub record EventSays (rest : List ℕ) (w : EventWords) : Type 0 where
 abbrev pub NoEvent : List ℕ → Type 0
 NoEvent rest = (name clock : List ℕ) (stamp : ℕ) → IsEventName name → IsClockName clock → rest ≡ event_rest name clock stamp → ⊥
 
+-- what the words behind `event` say, word by word, where the event has bounds of its own
+pub record OwnParts (name clock stamp early late : List ℕ) (w : OwnWords) : Type 0 where
+  pub name_is : name ≡ w.name
+  pub named : IsEventName w.name
+  pub clock_is : clock ≡ w.clock
+  pub clock_named : IsClockName w.clock
+  pub stamp_is : Spells stamp w.stamp
+  pub early_is : Spells early w.early
+  pub late_is : Spells late w.late
+
+-- the words of such a line behind the first
+abbrev pub own_rest : List ℕ → List ℕ → ℕ → ℕ → ℕ → List ℕ
+own_rest name clock s e t = words (name ∷ clock ∷ decimal_of s ∷ decimal_of e ∷ decimal_of t ∷ [])
+
+-- the words behind `event` are those of w
+pub record OwnSays (rest : List ℕ) (w : OwnWords) : Type 0 where
+  pub stamp : ℕ
+  pub early : ℕ
+  pub late : ℕ
+  pub named : IsEventName w.name
+  pub clock_named : IsClockName w.clock
+  pub is : rest ≡ own_rest w.name w.clock stamp early late
+  pub stamp_is : Counts (2 ^ 64) stamp w.stamp
+  pub early_is : Counts (2 ^ 64) early w.early
+  pub late_is : Counts (2 ^ 64) late w.late
+
+-- the words behind `event` are those of no event with bounds of its own
+abbrev pub NoOwn : List ℕ → Type 0
+NoOwn rest = (name clock : List ℕ) (s e t : ℕ) → IsEventName name → IsClockName clock → rest ≡ own_rest name clock s e t → ⊥
+
 -- the greatest delay m of a message, or that there is none, is held as n
 abbrev pub MostCounts : Option ℕ → Option (Option ℕ) → Type 0
 MostCounts None n = n ≡ None
@@ -154,6 +186,14 @@ SaysClock w s l e t = Counts (2 ^ 64) s w.short × Counts (2 ^ 64) l w.long × C
 abbrev pub ClockIs : Option Clock → List ℕ → ℕ → ℕ → ℕ → ℕ → Type 0
 ClockIs clock name s l e t = SomeIff clock (NumbersFit (ClockLine name s l e t)) (record { name = name; rate = record { short = s; long = l }; early = e; late = t })
 
+-- w holds these numbers of an event with bounds of its own
+abbrev pub SaysOwn : OwnWords → ℕ → ℕ → ℕ → Type 0
+SaysOwn w s e t = Counts (2 ^ 64) s w.stamp × Counts (2 ^ 64) e w.early × Counts (2 ^ 64) t w.late
+
+-- the stamp of these numbers and its bounds, or None where they do not fit
+abbrev pub OwnIs : Option OwnStamp → ℕ → ℕ → ℕ → Type 0
+OwnIs own s e t = SomeIff own ((s < 2 ^ 62) × (e < 2 ^ 62) × (t < 2 ^ 62)) (record { stamp = s; bounds = record { early = e; late = t } })
+
 -- the number, or None where it is 2 ^ 62 or more
 abbrev pub NanoIs : Option ℕ → ℕ → Type 0
 NanoIs n m = SomeIff n (m < 2 ^ 62) m
@@ -169,6 +209,14 @@ joined name rate early late = do
   e ← early
   t ← late
   Some (record { name = name; rate = r; early = e; late = t })
+
+-- a stamp of these parts, where all of them are in range
+abbrev pub joined_own : Option ℕ → Option ℕ → Option ℕ → Option OwnStamp
+joined_own stamp early late = do
+  s ← stamp
+  e ← early
+  t ← late
+  Some (record { stamp = s; bounds = record { early = e; late = t } })
 
 -- why no message may stand between the events at s and r whose numbers are out of their ranges
 abbrev pub RefusesDelays : ProblemLists → ℕ → ℕ → LineError → Type 0

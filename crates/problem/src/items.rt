@@ -1,6 +1,6 @@
 // The lists of a problem with the look-ups of their names.
-ghost use Rattle.std.specs.Prelude.{◌≡◌, ◌≢◌, ◌↔◌, ◌<◌, ℕ, IsTrue, OnOk, OnErr, IfSome, IfNone, length};
-ghost use Rattle.problem_model.specs.Problem.{IsProblem, MessageFits, empty_problem};
+ghost use Rattle.std.specs.Prelude.{◌≡◌, ◌≢◌, ◌↔◌, ◌<◌, ℕ, IsTrue, OnOk, OnErr, IfSome, IfNone, All, is_some, length};
+ghost use Rattle.problem_model.specs.Problem.{IsProblem, EventFits, MessageFits, empty_problem};
 ghost use Rattle.problem_model.specs.Bounds.{ComesAfter};
 ghost use Rattle.problem_model.specs.ShortList.{follow_to};
 ghost use Rattle.problem.specs.Line.{HasClock, HasEvent, HasMessageAt};
@@ -234,12 +234,29 @@ impl Items {
         Ok(())
     }
 
+    // Whether this event has bounds of its own where the events there have, and none where they have none.
+    fn is_alike(&self, e: &Event) -> bool
+        ensures { IsTrue result ↔ All (λ x. is_some x.bounds ≡ is_some e.now.bounds) self.now.events }
+    {
+        match self.events().first() {
+            Some(first) => first.bounds.is_some() == e.bounds.is_some(),
+            None => true,
+        }
+    }
+
+    // Whether its clock is known, and it is alike.
+    fn has_place_for(&self, e: &Event) -> bool
+        ensures { IsTrue result ↔ ((e.now.clock < length self.now.clocks) × All (λ x. is_some x.bounds ≡ is_some e.now.bounds) self.now.events) }
+    {
+        (e.clock as usize) < self.clocks.len() && self.is_alike(e)
+    }
+
     fn is_new_event(&self, e: &Event) -> bool
         ensures { IsTrue result ↔ IsNewEvent self.now e.now }
     {
         match self.event_names.place(&e.name) {
             Some(_place) => false,
-            None => (e.clock as usize) < self.clocks.len(),
+            None => self.has_place_for(e),
         }
     }
 
@@ -263,6 +280,7 @@ impl Items {
         ensures ok { OnOk result (self.new ≡ with_event self.old e) }
         ensures err { OnErr result (self.new ≡ self.old) }
     {
+        event_fits(&e);
         self.events.reserve(1)?;
         self.event_names.push(&e.name)?;
         self.events.push_reserved(e);
@@ -318,6 +336,17 @@ impl Items {
             most,
         });
         Ok(())
+    }
+}
+
+// The stamp of an event and its own bounds are below 2 ^ 62 ns: a call that reads one tells it, so it reads all.
+fn event_fits(e: &Event)
+    ensures { EventFits e.now }
+{
+    let _ = e.stamp.get();
+    if let Some(own) = &e.bounds {
+        let _ = own.early.get();
+        let _ = own.late.get();
     }
 }
 

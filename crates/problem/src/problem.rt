@@ -188,8 +188,9 @@ impl Problem {
         Ok(())
     }
 
-    /// Adds an event. Answers `Name` where its name is that of another event or its clock's place is out of range,
-    /// else `Limit` where there are 2^21 events, else `Memory` where memory runs out. All stays as it was on each.
+    /// Adds an event. Answers `Name` where its name is that of another event, its clock's place is out of range, or it
+    /// has bounds of its own and another event has none or the other way round, else `Limit` where there are 2^21
+    /// events, else `Memory` where memory runs out. All stays as it was on each.
     pub fn push_event(&mut self, e: Event) -> Result<(), PushError>
         ensures ok { OnOk result (self.new ≡ with_event self.old e) }
         ensures err { OnErr result (self.new ≡ self.old) }

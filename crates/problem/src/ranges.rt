@@ -2,11 +2,18 @@
 ghost use Rattle.std.specs.Prelude.{◌≡◌, ◌<◌, ◌≤◌, ◌^◌, ℕ, SomeIff, Option};
 ghost use Rattle.atto.specs.Number.{Counts};
 ghost use Rattle.problem.specs.Written.{MostCounts};
-ghost use Rattle.problem.specs.Written.{SaysClock, ClockIs, joined, MostIs};
+ghost use Rattle.problem.specs.Written.{SaysClock, ClockIs, joined, SaysOwn, OwnIs, joined_own, MostIs};
 
-use crate::words::ClockWords;
+use crate::words::{ClockWords, OwnWords};
 use atto::{Nano, Rate};
-use problem_model::{Clock, Name};
+use problem_model::{Clock, Name, StampBounds};
+
+/// A stamp with the event's own bounds.
+#[derive(Clone, Copy)]
+pub struct OwnStamp {
+    pub stamp: Nano,
+    pub bounds: StampBounds,
+}
 
 /// A number of ns, where it is below 2^62.
 pub fn nano_of(n: Option<u64>) -> Option<Nano>
@@ -49,6 +56,26 @@ pub fn clock_of(w: &ClockWords) -> Option<Clock>
         nano_of(w.early),
         nano_of(w.late),
     )
+}
+
+// The stamp and its bounds, where all three are in range.
+fn joined_own(stamp: Option<Nano>, early: Option<Nano>, late: Option<Nano>) -> Option<OwnStamp>
+    ensures { result ≡ joined_own stamp early late }
+{
+    Some(OwnStamp {
+        stamp: stamp?,
+        bounds: StampBounds {
+            early: early?,
+            late: late?,
+        },
+    })
+}
+
+/// The stamp of a line and the bounds there, where the numbers are in their ranges.
+pub fn own_of(w: &OwnWords) -> Option<OwnStamp>
+    ensures { (s : ℕ) (e : ℕ) (t : ℕ) → SaysOwn w.now s e t → OwnIs result s e t }
+{
+    joined_own(nano_of(w.stamp), nano_of(w.early), nano_of(w.late))
 }
 
 /// The greatest delay of a line, where it is `none` or in its range.

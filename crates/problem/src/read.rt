@@ -33,6 +33,9 @@ fn version_of(head: &[u8]) -> Option<Version>
     if head == b"problem 2".as_slice() {
         return Some(Version::Second);
     }
+    if head == b"problem 3".as_slice() {
+        return Some(Version::Third);
+    }
     None
 }
 

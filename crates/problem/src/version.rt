@@ -7,4 +7,6 @@ pub enum Version {
     First,
     /// `problem 2`: there is a line for each follow, and at least one.
     Second,
+    /// `problem 3`: each event has bounds of its own, and there is at least one; there is a line for each follow.
+    Third,
 }

@@ -1,6 +1,6 @@
 // Lines by their words.
 ghost use Rattle.std.specs.Prelude.{◌≡◌, ℕ, IfSome, IfNone, SomeIff, Option};
-ghost use Rattle.problem.specs.Written.{Spells, SpellsNone, ClockParts, ClockSays, NoClock, FollowParts, FollowSays, NoFollow, EventParts, EventSays, NoEvent, SpellsMost, MessageParts, MessageSays, NoMessage};
+ghost use Rattle.problem.specs.Written.{Spells, SpellsNone, ClockParts, ClockSays, NoClock, FollowParts, FollowSays, NoFollow, EventParts, EventSays, NoEvent, OwnParts, OwnSays, NoOwn, SpellsMost, MessageParts, MessageSays, NoMessage};
 ghost use Rattle.problem_model.specs.Name.{IsClockName, IsEventName};
 ghost use Rattle.atto.specs.Decimal.{decimal_of};
 ghost use Rattle.problem_model.specs.ProblemText.{most_word};
@@ -33,6 +33,16 @@ pub struct EventWords {
     pub name: Name,
     pub clock: Name,
     pub stamp: Option<u64>,
+}
+
+/// What the line of an event with bounds of its own says; a number of 2^64 or more is None.
+#[derive(Clone, Copy)]
+pub struct OwnWords {
+    pub name: Name,
+    pub clock: Name,
+    pub stamp: Option<u64>,
+    pub early: Option<u64>,
+    pub late: Option<u64>,
 }
 
 /// What a message's line says; its most is None for `none`.
@@ -131,6 +141,31 @@ pub fn event_words(rest: &[u8]) -> Option<EventWords>
 {
     match three_words(rest) {
         Some((name, clock, stamp)) => event_of(name, clock, stamp),
+        None => None,
+    }
+}
+
+// What the words of such a line say, behind its first, where the event has bounds of its own.
+fn own_of(name: &[u8], clock: &[u8], stamp: &[u8], early: &[u8], late: &[u8]) -> Option<OwnWords>
+    ensures some { IfSome result (λ w. OwnParts name.now clock.now stamp.now early.now late.now w) }
+    ensures none { IfNone result ((s : ℕ) (e : ℕ) (t : ℕ) → IsEventName name.now → IsClockName clock.now → stamp.now ≡ decimal_of s → early.now ≡ decimal_of e → late.now ≡ decimal_of t → ⊥) }
+{
+    Some(OwnWords {
+        name: Name::new(name)?,
+        clock: clock_name(clock)?,
+        stamp: number_of(stamp)?,
+        early: number_of(early)?,
+        late: number_of(late)?,
+    })
+}
+
+/// What the line of an event with bounds of its own says behind its first word.
+pub fn own_words(rest: &[u8]) -> Option<OwnWords>
+    ensures some { IfSome result (λ w. OwnSays rest.now w) }
+    ensures none { IfNone result (NoOwn rest.now) }
+{
+    match five_words(rest) {
+        Some((name, clock, stamp, early, late)) => own_of(name, clock, stamp, early, late),
         None => None,
     }
 }

@@ -1,5 +1,5 @@
 -- The ends of declared bounds are nodes of the problem.
-use Rattle.std.proofs.Common.{◌<◌, ℕ, [], length, get_or, refl, sym, subst}
+use Rattle.std.proofs.Common.{◌<◌, ℕ, [], length, get_or, None, refl, sym, subst}
 use Rattle.std.specs.Prelude.{Contains}
 use Rattle.std.proofs.lemmas.List.Elements.{All-contains}
 use Rattle.std.proofs.lemmas.Option.{slice_get_within, slice_get-get_or, get_or_from_slice_get}
@@ -12,7 +12,7 @@ use Rattle.problem_model.specs.Bounds.{Constraint, Declares, EventAt, IsReading}
 use Rattle.problem_model.specs.Solutions.{IsNodeOf}
 
 pub event_of : (p : ProblemLists) (k : ℕ) → k < length p.events → (v : Event) × EventAt p k v
-event_of p k inside = (get_or p.events k (record { name = []; clock = 0; stamp = 0 }), slice_get-get_or p.events k (record { name = []; clock = 0; stamp = 0 }) inside)
+event_of p k inside = (get_or p.events k (record { name = []; clock = 0; stamp = 0; bounds = None }), slice_get-get_or p.events k (record { name = []; clock = 0; stamp = 0; bounds = None }) inside)
 
 pub contains_at : (p : ProblemLists) (k : ℕ) (v : Event) → EventAt p k v → Contains p.events v
 contains_at p k v at = (k, slice_get_within p.events k v at, get_or_from_slice_get p.events k v v at)

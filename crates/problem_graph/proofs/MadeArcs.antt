@@ -8,6 +8,7 @@ use Rattle.std.proofs.lemmas.Option.{slice_get_within}
 use Rattle.atto.specs.Span.{most_of, least_of}
 use Rattle.problem_model.specs.declared.items.Clock.{Clock}
 use Rattle.problem_model.specs.declared.items.Event.{Event}
+use Rattle.problem_model.specs.declared.items.StampBounds.{StampBounds}
 use Rattle.problem_model.specs.declared.items.Message.{Message}
 use Rattle.problem_model.specs.declared.items.Node.{Node}
 use Rattle.problem_model.specs.declared.items.Node.TheVariants as nodes
@@ -21,7 +22,7 @@ use Rattle.sync_graph.specs.declared.arc.Arc.{Arc}
 use Rattle.sync_graph.specs.Names.{JoinsNodes}
 use Rattle.problem_graph.specs.declared.arcs.Arcs.{Arcs}
 use Rattle.problem_graph.specs.declared.arcs.Arcs.TheVariants.{One, Two}
-use Rattle.problem_graph.specs.BoundArcs.{arcs_in, names_of, FitsNodes, IsBoundAmong, HaveNumbers, AreArcsOf}
+use Rattle.problem_graph.specs.BoundArcs.{arcs_in, late_by, early_by, names_of, FitsNodes, IsBoundAmong, HaveNumbers, AreArcsOf}
 
 -- ---- arcs in a row
 pub arcs_then : (N : List Node → Type 0) (H : ProblemLists → Type 0) (xs ys : List Bound) (xa xb : List Arc) → AreArcsOf xs N H xa → AreArcsOf ys N H xb → AreArcsOf (xs ++ ys) N H (xa ++ xb)
@@ -95,8 +96,8 @@ module _ (place s t j k : ℕ) (c : Clock) (rising : s < t) (w w' : ℤ) (is : w
         (λ p (at, of_s, of_t). (c, at, of_s, of_t, rising, ap (λ (v : ℤ). record { from = n; to = m; weight = v }) is')))
 
 -- ---- the stamp of an event
-module _ (e place stamp j k : ℕ) (c : Clock) (w w' : ℤ) (is : w ≡ pos (c.late * 1000000000)) (is' : w' ≡ pos (c.early * 1000000000))
-    (few : c.late * 1000000000 < 2 ^ 92) (few' : c.early * 1000000000 < 2 ^ 92)
+module _ (e place stamp j k : ℕ) (c : Clock) (own : Option StampBounds) (w w' : ℤ) (is : w ≡ pos (late_by c own * 1000000000)) (is' : w' ≡ pos (early_by c own * 1000000000))
+    (few : late_by c own * 1000000000 < 2 ^ 92) (few' : early_by c own * 1000000000 < 2 ^ 92)
   where
     abbrev late : Arc
     late = record { from = j; to = k; weight = w; name = Late e }
@@ -105,7 +106,7 @@ module _ (e place stamp j k : ℕ) (c : Clock) (w w' : ℤ) (is : w ≡ pos (c.l
     early = record { from = k; to = j; weight = w'; name = Early e }
 
     abbrev HasStamped : ProblemLists → Type 0
-    HasStamped p = (v : Event) × EventAt p e v × (v.clock ≡ place) × (v.stamp ≡ stamp) × ClockAt p place c
+    HasStamped p = (v : Event) × EventAt p e v × (v.clock ≡ place) × (v.stamp ≡ stamp) × (v.bounds ≡ own) × ClockAt p place c
 
     -- the reading of the event is this one
     at : (v : Event) → v.clock ≡ place → v.stamp ≡ stamp → nodes.Reading v.clock v.stamp ≡ nodes.Reading place stamp
@@ -118,20 +119,20 @@ module _ (e place stamp j k : ℕ) (c : Clock) (w w' : ℤ) (is : w ≡ pos (c.l
         let n : Node = nodes.Event e in
         arcs_then (HaveNumbers j m k n) HasStamped (Late e ∷ []) (Early e ∷ []) (late ∷ []) (early ∷ [])
         (onward late m n (place, stamp, refl, refl) (omega (arith, ints, is)) (omega (arith, ints, is, few)) HasStamped
-        (λ p (v, event, on, reads, clock). (
+        (λ p (v, event, on, reads, bounded, clock). (
           v,
           c,
           event,
           subst (λ (d : ℕ). ClockAt p d c) (sym on) clock,
-          ap (λ (r : Node). record { from = r; to = n; weight = w }) (sym (at v on reads)) ∙ ap (λ (x : ℤ). record { from = nodes.Reading v.clock v.stamp; to = n; weight = x }) is,
+          ap (λ (r : Node). record { from = r; to = n; weight = w }) (sym (at v on reads)) ∙ ap (λ (x : ℤ). record { from = nodes.Reading v.clock v.stamp; to = n; weight = x }) (is ∙ ap (λ (o : Option StampBounds). pos (late_by c o * 1000000000)) (sym bounded)),
         )))
         (back early n m (place, stamp, refl, refl) (omega (arith, ints, is')) (omega (arith, ints, is', few')) HasStamped
-        (λ p (v, event, on, reads, clock). (
+        (λ p (v, event, on, reads, bounded, clock). (
           v,
           c,
           event,
           subst (λ (d : ℕ). ClockAt p d c) (sym on) clock,
-          ap (λ (r : Node). record { from = n; to = r; weight = w' }) (sym (at v on reads)) ∙ ap (λ (x : ℤ). record { from = n; to = nodes.Reading v.clock v.stamp; weight = x }) is',
+          ap (λ (r : Node). record { from = n; to = r; weight = w' }) (sym (at v on reads)) ∙ ap (λ (x : ℤ). record { from = n; to = nodes.Reading v.clock v.stamp; weight = x }) (is' ∙ ap (λ (o : Option StampBounds). pos (early_by c o * 1000000000)) (sym bounded)),
         )))
 
 -- ---- a follow

@@ -7,11 +7,11 @@ ghost use Rattle.problem_model.specs.declared.items.Bound.TheVariants.{SpanMost,
 ghost use Rattle.problem_model.specs.Bounds.{Declares, ClockAt, EventAt, IsReading};
 ghost use Rattle.problem_model.specs.ShortList.{message_bounds};
 ghost use Rattle.problem.specs.Nearest.{gap_between};
-ghost use Rattle.problem_graph.specs.BoundArcs.{AreArcsOf, HaveNumbers, arcs_in};
+ghost use Rattle.problem_graph.specs.BoundArcs.{AreArcsOf, HaveNumbers, arcs_in, early_by, late_by};
 
 use atto::{Nano, delay_units, span_least, span_most};
 use problem::NearestFollow;
-use problem_model::{Bound, Clock, Message};
+use problem_model::{Bound, Clock, Message, StampBounds};
 use sync_graph::Arc;
 
 /// The arcs that one thing brings, in their order.
@@ -48,31 +48,52 @@ pub fn span_arcs(place: u32, clock: &Clock, s: Nano, t: Nano, first: u32, second
     )
 }
 
-/// The arcs of both bounds on the stamp of the event at a place, which its clock shows; the nodes of reading and event have
-/// these numbers.
+// How far behind the reading on its stamp an event on the clock may lie.
+fn late_by(clock: &Clock, own: &Option<StampBounds>) -> Nano
+    ensures { result ≡ late_by clock.now own.now }
+{
+    match own {
+        None => clock.late,
+        Some(own) => own.late,
+    }
+}
+
+// How far before it.
+fn early_by(clock: &Clock, own: &Option<StampBounds>) -> Nano
+    ensures { result ≡ early_by clock.now own.now }
+{
+    match own {
+        None => clock.early,
+        Some(own) => own.early,
+    }
+}
+
+/// The arcs of both bounds on the stamp of the event at a place, which its clock shows, with its own bounds where it
+/// has any; the nodes of reading and event have these numbers.
 pub fn stamp_arcs(
     event: u32,
     place: u32,
     clock: &Clock,
     stamp: Nano,
+    own: &Option<StampBounds>,
     reading: u32,
     node: u32,
 ) -> Arcs
     ensures { AreArcsOf (Late event ∷ Early event ∷ [])
         (HaveNumbers reading (nodes.Reading place stamp) node (nodes.Event event))
-        (λ p. (e : Event) × EventAt p event e × (e.clock ≡ place) × (e.stamp ≡ stamp) × ClockAt p place clock.now) (arcs_in result) }
+        (λ p. (e : Event) × EventAt p event e × (e.clock ≡ place) × (e.stamp ≡ stamp) × (e.bounds ≡ own.now) × ClockAt p place clock.now) (arcs_in result) }
 {
     Arcs::Two(
         Arc {
             from: reading,
             to: node,
-            weight: delay_units(clock.late),
+            weight: delay_units(late_by(clock, own)),
             name: Bound::Late(event),
         },
         Arc {
             from: node,
             to: reading,
-            weight: delay_units(clock.early),
+            weight: delay_units(early_by(clock, own)),
             name: Bound::Early(event),
         },
     )

@@ -12,7 +12,7 @@ use Rattle.problem_model.specs.declared.items.Bound.TheVariants.{SpanMost, SpanL
 use Rattle.atto.specs.Span.{least_of, most_of}
 use Rattle.problem_model.specs.declared.items.Node.TheVariants as nodes
 use Rattle.problem_model.specs.Problem.{ProblemLists, IsWellFormed}
-use Rattle.problem_model.specs.Bounds.{Constraint, Declares}
+use Rattle.problem_model.specs.Bounds.{Constraint, Declares, early_of, late_of}
 use Rattle.problem_model.proofs.Following.{chained_by, follow_one}
 
 some_same : {X : Type 0} (a b : X) → Some a ≡ Some b → a ≡ b
@@ -66,13 +66,13 @@ declared_one p formed (SpanLeast clock s t) a a' x y =
 declared_one p formed (Late e) a a' x y =
     let v : x.0 ≡ y.0 = slot_same _ x.0 y.0 x.2 y.2 in
     let c : x.1 ≡ y.1 = slot_same _ x.1 y.1 x.3 (subst (λ (w : Event). slice_get p.clocks w.clock ≡ Some y.1) (sym v) y.3) in
-    x.4 ∙ ap (λ (w : Event). record { from = nodes.Reading w.clock w.stamp; to = nodes.Event e; weight = pos (x.1.late * 1000000000) }) v
-    ∙ ap (λ (w : Clock). record { from = nodes.Reading y.0.clock y.0.stamp; to = nodes.Event e; weight = pos (w.late * 1000000000) }) c ∙ sym y.4
+    x.4 ∙ ap (λ (w : Event). record { from = nodes.Reading w.clock w.stamp; to = nodes.Event e; weight = pos (late_of x.1 w * 1000000000) }) v
+    ∙ ap (λ (w : Clock). record { from = nodes.Reading y.0.clock y.0.stamp; to = nodes.Event e; weight = pos (late_of w y.0 * 1000000000) }) c ∙ sym y.4
 declared_one p formed (Early e) a a' x y =
     let v : x.0 ≡ y.0 = slot_same _ x.0 y.0 x.2 y.2 in
     let c : x.1 ≡ y.1 = slot_same _ x.1 y.1 x.3 (subst (λ (w : Event). slice_get p.clocks w.clock ≡ Some y.1) (sym v) y.3) in
-    x.4 ∙ ap (λ (w : Event). record { from = nodes.Event e; to = nodes.Reading w.clock w.stamp; weight = pos (x.1.early * 1000000000) }) v
-    ∙ ap (λ (w : Clock). record { from = nodes.Event e; to = nodes.Reading y.0.clock y.0.stamp; weight = pos (w.early * 1000000000) }) c ∙ sym y.4
+    x.4 ∙ ap (λ (w : Event). record { from = nodes.Event e; to = nodes.Reading w.clock w.stamp; weight = pos (early_of x.1 w * 1000000000) }) v
+    ∙ ap (λ (w : Clock). record { from = nodes.Event e; to = nodes.Reading y.0.clock y.0.stamp; weight = pos (early_of w y.0 * 1000000000) }) c ∙ sym y.4
 declared_one p formed (bounds.Follow c s d t) a a' x y =
     let f : x.0 ≡ y.0 = follow_one p (chained_by p formed) x.0 y.0 x.1 y.1 (x.2 ∙ sym y.2) in
     x.6 ∙ ap (λ (v : Follow). record { from = nodes.Reading d t; to = nodes.Reading c s; weight = neg_ℤ (pos (v.gap * 1000000000)) }) f ∙ sym y.6

@@ -1,5 +1,5 @@
 -- Small problems worked out: each definition on problems holds of one thing and fails of another.
-use Rattle.std.proofs.Common.{◌≡◌, ◌<◌, ◌*◌, ℕ, zero, suc, List, [], ◌∷◌, slice_get, Some, refl, sym, ◌∙◌, ap, subst, arith}
+use Rattle.std.proofs.Common.{◌≡◌, ◌<◌, ◌*◌, ℕ, zero, suc, List, [], ◌∷◌, slice_get, Some, None, refl, sym, ◌∙◌, ap, subst, arith}
 use Rattle.std.specs.Prelude.{ℤ, pos, ◌+ℤ◌, Contains, codes}
 use Rattle.std.proofs.lemmas.Int.{ints}
 use Rattle.std.proofs.lemmas.List.Elements.{All-from_recursion}
@@ -10,7 +10,7 @@ use Rattle.problem_model.specs.declared.items.Bound.{Bound}
 use Rattle.problem_model.specs.declared.items.Bound.TheVariants as bounds
 use Rattle.problem_model.specs.declared.items.Bound.TheVariants.{SpanMost, SpanLeast, Late, Early, DelayMost, DelayLeast}
 use Rattle.problem_model.specs.Problem.{ProblemLists, empty_problem}
-use Rattle.problem_model.specs.Bounds.{Constraint, Declares, Times, IsExecution}
+use Rattle.problem_model.specs.Bounds.{Constraint, Declares, Times, IsExecution, early_of, late_of}
 use Rattle.problem_model.specs.Nodes.{Reading}
 use Rattle.problem_model.specs.Executions.{Arc}
 use Rattle.problem_model.specs.ProblemArcs.{IsNodeAt, IsArcOf, StandsFor, IsGreatestOf, IsUnboundedOf}
@@ -20,7 +20,7 @@ abbrev pub one_clock : Clock
 one_clock = record { name = codes "c"; rate = record { short = 0; long = 0 }; early = 0; late = 7 }
 
 abbrev pub one_event : Event
-one_event = record { name = codes "p"; clock = 0; stamp = 0 }
+one_event = record { name = codes "p"; clock = 0; stamp = 0; bounds = None }
 
 abbrev pub one : ProblemLists
 one = record { clocks = one_clock ∷ []; follows = []; events = one_event ∷ []; messages = [] }
@@ -53,15 +53,15 @@ pub late_is : (a : Constraint) → Declares one (Late 0) a → late_bound ≡ a
 late_is a (v, c, at, on, is) =
     let event = event_is 0 v refl at in
     let clock = clock_is v c event on in
-    ap (λ (w : Event). record { from = nodes.Reading w.clock w.stamp; to = nodes.Event 0; weight = pos 7000000000 }) event
-    ∙ ap (λ (k : Clock). record { from = nodes.Reading v.clock v.stamp; to = nodes.Event 0; weight = pos (k.late * 1000000000) }) clock ∙ sym is
+    ap (λ (w : Event). record { from = nodes.Reading w.clock w.stamp; to = nodes.Event 0; weight = pos (late_of one_clock w * 1000000000) }) event
+    ∙ ap (λ (k : Clock). record { from = nodes.Reading v.clock v.stamp; to = nodes.Event 0; weight = pos (late_of k v * 1000000000) }) clock ∙ sym is
 
 early_is : (a : Constraint) → Declares one (Early 0) a → early_bound ≡ a
 early_is a (v, c, at, on, is) =
     let event = event_is 0 v refl at in
     let clock = clock_is v c event on in
-    ap (λ (w : Event). record { from = nodes.Event 0; to = nodes.Reading w.clock w.stamp; weight = pos 0 }) event
-    ∙ ap (λ (k : Clock). record { from = nodes.Event 0; to = nodes.Reading v.clock v.stamp; weight = pos (k.early * 1000000000) }) clock ∙ sym is
+    ap (λ (w : Event). record { from = nodes.Event 0; to = nodes.Reading w.clock w.stamp; weight = pos (early_of one_clock w * 1000000000) }) event
+    ∙ ap (λ (k : Clock). record { from = nodes.Event 0; to = nodes.Reading v.clock v.stamp; weight = pos (early_of k v * 1000000000) }) clock ∙ sym is
 
 pub late_arc_of : IsArcOf one one_reading late_bound late_arc
 late_arc_of = record { tail = refl; head = refl; weighs = refl }

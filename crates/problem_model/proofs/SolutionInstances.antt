@@ -1,5 +1,5 @@
 -- Small problems worked out: their earliest executions and contradictions.
-use Rattle.std.proofs.Common.{◌≡◌, ◌*◌, ℕ, zero, suc, List, [], ◌∷◌, Some, refl, sym, ◌∙◌, ap, subst, arith}
+use Rattle.std.proofs.Common.{◌≡◌, ◌*◌, ℕ, zero, suc, List, [], ◌∷◌, Some, None, refl, sym, ◌∙◌, ap, subst, arith}
 use Rattle.std.specs.Prelude.{pos, neg_ℤ, ◌≤ℤ◌, ◌<ℤ◌, codes}
 use Rattle.std.proofs.lemmas.Int.{ints}
 use Rattle.problem_model.specs.declared.items.Event.{Event}
@@ -8,7 +8,7 @@ use Rattle.problem_model.specs.declared.items.Node.TheVariants as nodes
 use Rattle.problem_model.specs.declared.items.Bound.TheVariants as bounds
 use Rattle.problem_model.specs.declared.items.Bound.TheVariants.{SpanMost, SpanLeast, Late, Early, DelayMost, DelayLeast}
 use Rattle.problem_model.specs.Problem.{ProblemLists}
-use Rattle.problem_model.specs.Bounds.{Constraint, Declares, IsReading, IsExecution, Obeys, Times}
+use Rattle.problem_model.specs.Bounds.{Constraint, Declares, IsReading, IsExecution, Obeys, Times, early_of, late_of}
 use Rattle.problem_model.specs.ProblemArcs.{IsArcOf}
 use Rattle.problem_model.specs.Solutions.{IsNodeOf, IsFromZero, IsEarliestExecution, WeighedBound, Leads, weight_of, IsContradictionOf, IsBoundArc}
 use Rattle.problem_model.proofs.ProblemInstances.{one, one_clock, one_event, one_reading, late_arc, early_arc, late_bound, late_arc_of, not_arc, late_is}
@@ -45,8 +45,8 @@ zero_executes (SpanLeast clock s t) a (c, at, from, to, rises, is) =
     let low : s ≡ 0 = stamp_zero clock s from in
     let high : t ≡ 0 = stamp_zero clock t to in
     absurd (omega (arith, rises, low, high))
-zero_executes (Late e) a (v, c, at, on, is) = obeys_at_zero a (c.late * 1000000000) (ap (λ (k : Constraint). k.weight) is)
-zero_executes (Early e) a (v, c, at, on, is) = obeys_at_zero a (c.early * 1000000000) (ap (λ (k : Constraint). k.weight) is)
+zero_executes (Late e) a (v, c, at, on, is) = obeys_at_zero a (late_of c v * 1000000000) (ap (λ (k : Constraint). k.weight) is)
+zero_executes (Early e) a (v, c, at, on, is) = obeys_at_zero a (early_of c v * 1000000000) (ap (λ (k : Constraint). k.weight) is)
 zero_executes (bounds.Follow c s d' t) a d = let inside = d.1.1 in absurd (omega (arith, inside))
 zero_executes (DelayMost send receive) a d = let inside = d.2.1 in absurd (omega (arith, inside))
 zero_executes (DelayLeast send receive) a d = let inside = d.1.1 in absurd (omega (arith, inside))
@@ -72,7 +72,7 @@ abbrev crossed : ProblemLists
 crossed = record {
   clocks = one_clock ∷ [];
   follows = [];
-  events = one_event ∷ (let q : Event = record { name = codes "q"; clock = 0; stamp = 0 } in q) ∷ [];
+  events = one_event ∷ (let q : Event = record { name = codes "q"; clock = 0; stamp = 0; bounds = None } in q) ∷ [];
   messages = (let m : Message = record { send = 0; receive = 1; least = 2; most = Some 1 } in m) ∷ [];
 }
 

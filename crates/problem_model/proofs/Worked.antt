@@ -18,7 +18,7 @@ abbrev worked : ProblemLists
 worked = record {
   clocks = record { name = codes "c"; rate = record { short = 100; long = 100 }; early = 0; late = 7 } ∷ [];
   follows = [];
-  events = record { name = codes "p"; clock = 0; stamp = 0 } ∷ record { name = codes "q"; clock = 0; stamp = 12 } ∷ [];
+  events = record { name = codes "p"; clock = 0; stamp = 0; bounds = None } ∷ record { name = codes "q"; clock = 0; stamp = 12; bounds = None } ∷ [];
   messages = record { send = 0; receive = 1; least = 10; most = None } ∷ [];
 }
 
@@ -54,13 +54,13 @@ abbrev chain : List Event → ProblemLists
 chain more = record {
   clocks = clock_of_zeros (codes "c") ∷ clock_of_zeros (codes "d") ∷ clock_of_zeros (codes "e") ∷ [];
   follows = second ∷ first ∷ [];
-  events = record { name = codes "o"; clock = 0; stamp = 8 } ∷ record { name = codes "p"; clock = 0; stamp = 10 }
-      ∷ record { name = codes "q"; clock = 2; stamp = 0 } ∷ record { name = codes "s"; clock = 2; stamp = 3 } ∷ more;
+  events = record { name = codes "o"; clock = 0; stamp = 8; bounds = None } ∷ record { name = codes "p"; clock = 0; stamp = 10; bounds = None }
+      ∷ record { name = codes "q"; clock = 2; stamp = 0; bounds = None } ∷ record { name = codes "s"; clock = 2; stamp = 3; bounds = None } ∷ more;
   messages = [];
 }
 
 abbrev on_d : Event
-on_d = record { name = codes "r"; clock = 1; stamp = 4 }
+on_d = record { name = codes "r"; clock = 1; stamp = 4; bounds = None }
 
 abbrev chain_readings : List Reading
 chain_readings = (0, 8) ∷ (0, 10) ∷ (2, 0) ∷ (2, 3) ∷ []

@@ -1,5 +1,5 @@
 -- The bounds that a problem declares, over every two readings of a clock and of clocks that come after each other.
-use Rattle.std.specs.Prelude.{◌≡◌, ℕ, List, [], ◌∷◌, ◌-◌, ◌*◌, ◌<◌, slice_get, Some, ℤ, pos, neg_ℤ, ◌-ℤ◌, ◌≤ℤ◌, Contains}
+use Rattle.std.specs.Prelude.{◌≡◌, ℕ, List, [], ◌∷◌, ◌-◌, ◌*◌, ◌<◌, slice_get, Some, None, ℤ, pos, neg_ℤ, ◌-ℤ◌, ◌≤ℤ◌, Contains}
 use Rattle.atto.specs.Span.{least_of, most_of}
 use Rattle.problem_model.specs.declared.items.Clock.{Clock}
 use Rattle.problem_model.specs.declared.items.Follow.{Follow}
@@ -39,6 +39,14 @@ LinesLead p c (f ∷ lines) d = Contains p.follows f × (f.earlier ≡ c) × Lin
 abbrev pub ComesAfter : ProblemLists → ℕ → ℕ → Type 0
 ComesAfter p c d = (f : Follow) × (lines : List Follow) × LinesLead p c (f ∷ lines) d
 
+-- how far before the reading on its stamp an event may lie, in ns: by its own bounds, or else by those of its clock
+abbrev pub early_of : Clock → Event → ℕ
+early_of c e = elim e.bounds [ None ↦ c.early | Some own ↦ own.early ]
+
+-- how far behind it
+abbrev pub late_of : Clock → Event → ℕ
+late_of c e = elim e.bounds [ None ↦ c.late | Some own ↦ own.late ]
+
 -- the problem declares the constraint a under the name b: spans for every two readings of a clock; a follow for every
 -- reading of a clock and every one of a clock that comes after it, with the gap of the line that leads to the later one
 abbrev pub Declares : ProblemLists → Bound → Constraint → Type 0
@@ -47,9 +55,9 @@ Declares p (SpanMost clock s t) a = (c : Clock) × ClockAt p clock c × IsReadin
 Declares p (SpanLeast clock s t) a = (c : Clock) × ClockAt p clock c × IsReading p clock s × IsReading p clock t × (s < t)
     × (a ≡ record { from = nodes.Reading clock t; to = nodes.Reading clock s; weight = neg_ℤ (pos (least_of c.rate (t - s))) })
 Declares p (Late e) a = (v : Event) × (c : Clock) × EventAt p e v × ClockAt p v.clock c
-    × (a ≡ record { from = nodes.Reading v.clock v.stamp; to = nodes.Event e; weight = pos (c.late * 1000000000) })
+    × (a ≡ record { from = nodes.Reading v.clock v.stamp; to = nodes.Event e; weight = pos (late_of c v * 1000000000) })
 Declares p (Early e) a = (v : Event) × (c : Clock) × EventAt p e v × ClockAt p v.clock c
-    × (a ≡ record { from = nodes.Event e; to = nodes.Reading v.clock v.stamp; weight = pos (c.early * 1000000000) })
+    × (a ≡ record { from = nodes.Event e; to = nodes.Reading v.clock v.stamp; weight = pos (early_of c v * 1000000000) })
 Declares p (bounds.Follow c s d t) a = (f : Follow) × Contains p.follows f × (f.later ≡ d) × ComesAfter p c d × IsReading p c s × IsReading p d t
     × (a ≡ record { from = nodes.Reading d t; to = nodes.Reading c s; weight = neg_ℤ (pos (f.gap * 1000000000)) })
 Declares p (DelayMost send receive) a = (m : Message) × (most : ℕ) × Contains p.messages m × (m.send ≡ send) × (m.receive ≡ receive) × (m.most ≡ Some most)

@@ -1,5 +1,5 @@
 -- A problem and the rules that it meets.
-use Rattle.std.specs.Prelude.{◌≡◌, ◌≢◌, ℕ, ◌^◌, ◌<◌, ◌≤◌, List, [], length, IfSome, AllPairs, All}
+use Rattle.std.specs.Prelude.{◌≡◌, ◌≢◌, ℕ, ◌^◌, ◌<◌, ◌≤◌, List, [], length, is_some, IfSome, AllPairs, All}
 use Rattle.problem_model.specs.declared.items.Clock.{Clock}
 use Rattle.problem_model.specs.declared.items.Follow.{Follow}
 use Rattle.problem_model.specs.declared.items.Event.{Event}
@@ -22,6 +22,10 @@ empty_problem = record { clocks = []; follows = []; events = []; messages = [] }
 -- the numbers of a clock are in their ranges
 abbrev pub ClockFits : Clock → Type 0
 ClockFits c = (c.rate.short ≤ 999999999) × (c.rate.long ≤ 1000000000) × (c.early < 2 ^ 62) × (c.late < 2 ^ 62)
+
+-- so are those of an event
+abbrev pub EventFits : Event → Type 0
+EventFits e = (e.stamp < 2 ^ 62) × IfSome e.bounds (λ own. (own.early < 2 ^ 62) × (own.late < 2 ^ 62))
 
 -- so are those of a message
 abbrev pub MessageFits : Message → Type 0
@@ -46,6 +50,7 @@ pub record IsWellFormed (p : ProblemLists) : Type 0 where
   pub laters_differ : AllPairs (λ a b. a.later ≢ b.later) p.follows
   pub event_names : All (λ e. IsEventName e.name) p.events
   pub events_differ : AllPairs (λ a b. a.name ≢ b.name) p.events
+  pub bounds_alike : AllPairs (λ a b. is_some a.bounds ≡ is_some b.bounds) p.events
   pub event_clocks : All (λ e. e.clock < length p.clocks) p.events
   pub sends : All (λ m. m.send < length p.events) p.messages
   pub receives : All (λ m. m.receive < length p.events) p.messages
@@ -57,7 +62,7 @@ pub record FitsLimits (p : ProblemLists) : Type 0 where
   pub clocks_fit : All ClockFits p.clocks
   pub clock_limit : length p.clocks ≤ most_clocks
   pub gaps_fit : All (λ f. f.gap < 2 ^ 62) p.follows
-  pub stamps_fit : All (λ e. e.stamp < 2 ^ 62) p.events
+  pub events_fit : All EventFits p.events
   pub event_limit : length p.events ≤ most_events
   pub messages_fit : All MessageFits p.messages
   pub message_limit : length p.messages ≤ most_messages

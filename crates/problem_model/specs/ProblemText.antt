@@ -1,11 +1,12 @@
 -- The text of a problem.
-use Rattle.std.specs.Prelude.{ℕ, List, [], ◌∷◌, ◌++◌, slice_get, Option, Some, None, codes}
-use Rattle.std.specs.List.{flat_map}
+use Rattle.std.specs.Prelude.{ℕ, List, [], ◌∷◌, ◌++◌, slice_get, Option, Some, None, is_some, Bool, if◌then◌else◌, codes}
+use Rattle.std.specs.List.{flat_map, list_any}
 use Rattle.atto.specs.Decimal.{decimal_of}
 use Rattle.line_format.specs.Words.{line_of}
 use Rattle.problem_model.specs.declared.items.Clock.{Clock}
 use Rattle.problem_model.specs.declared.items.Follow.{Follow}
 use Rattle.problem_model.specs.declared.items.Event.{Event}
+use Rattle.problem_model.specs.declared.items.StampBounds.{StampBounds}
 use Rattle.problem_model.specs.declared.items.Message.{Message}
 use Rattle.problem_model.specs.Problem.{ProblemLists}
 
@@ -17,10 +18,22 @@ problem_head = codes "problem" ∷ codes "1" ∷ []
 abbrev pub followed_head : List (List ℕ)
 followed_head = codes "problem" ∷ codes "2" ∷ []
 
--- the words of the first line of a problem with these follows
-abbrev pub head_words : List Follow → List (List ℕ)
-head_words [] = problem_head
-head_words (f ∷ follows) = followed_head
+-- the words of the first line, where events have bounds of their own
+abbrev pub own_head : List (List ℕ)
+own_head = codes "problem" ∷ codes "3" ∷ []
+
+-- the words of the first line of a problem with these follows, where no event has bounds of its own
+abbrev pub plain_head : List Follow → List (List ℕ)
+plain_head [] = problem_head
+plain_head (f ∷ follows) = followed_head
+
+-- some event has bounds of its own
+abbrev pub have_bounds : List Event → Bool
+have_bounds events = list_any (λ (e : Event). is_some e.bounds) events
+
+-- the words of the first line of a problem with these follows and these events
+abbrev pub head_words : List Follow → List Event → List (List ℕ)
+head_words follows events = if have_bounds events then own_head else plain_head follows
 
 -- the line of a clock
 abbrev pub clock_line : Clock → List ℕ
@@ -46,9 +59,14 @@ event_name events k = option_name (slice_get events k)
     option_name None = []
     option_name (Some e) = e.name
 
--- the line of an event, with the name of its clock
+-- the words of an event's own bounds
+abbrev pub bound_words : Option StampBounds → List (List ℕ)
+bound_words None = []
+bound_words (Some own) = decimal_of own.early ∷ decimal_of own.late ∷ []
+
+-- the line of an event, with the name of its clock, and with its own bounds where it has them
 abbrev pub event_line : List Clock → Event → List ℕ
-event_line clocks e = line_of (codes "event" ∷ e.name ∷ clock_name clocks e.clock ∷ decimal_of e.stamp ∷ [])
+event_line clocks e = line_of (codes "event" ∷ e.name ∷ clock_name clocks e.clock ∷ decimal_of e.stamp ∷ bound_words e.bounds)
 
 -- the greatest delay, or that there is none
 abbrev pub most_word : Option ℕ → List ℕ
@@ -61,5 +79,5 @@ message_line events m = line_of (codes "message" ∷ event_name events m.send �
 
 -- the only text of a problem
 abbrev pub problem_text : ProblemLists → List ℕ
-problem_text p = line_of (head_words p.follows) ++ flat_map clock_line p.clocks ++ (flat_map (follow_line p.clocks) p.follows ++ flat_map (event_line p.clocks) p.events)
+problem_text p = line_of (head_words p.follows p.events) ++ flat_map clock_line p.clocks ++ (flat_map (follow_line p.clocks) p.follows ++ flat_map (event_line p.clocks) p.events)
     ++ flat_map (message_line p.events) p.messages ++ line_of (codes "end" ∷ [])

@@ -17,6 +17,15 @@ pub struct Clock {
     pub late: Nano,
 }
 
+/// How far the real time of an event may lie from that of the reading on its stamp.
+#[derive(Clone, Copy, Debug, PartialEq, Eq)]
+pub struct StampBounds {
+    /// How far before it, in ns below 2^62.
+    pub early: Nano,
+    /// How far behind it, in ns below 2^62.
+    pub late: Nano,
+}
+
 /// An event with the stamp that a clock gave it.
 #[derive(Clone, Copy, Debug, PartialEq, Eq)]
 pub struct Event {
@@ -25,6 +34,8 @@ pub struct Event {
     pub clock: u32,
     /// In ns of the clock, below 2^62.
     pub stamp: Nano,
+    /// Its own bounds; None where those of its clock count.
+    pub bounds: Option<StampBounds>,
 }
 
 /// A message from one event to another, with the bounds on its delay in ns of real time.

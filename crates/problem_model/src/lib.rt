@@ -15,6 +15,6 @@ mod name;
 pub mod numbers;
 
 pub use bounds::{follows_join_neighbours, nodes_are_one_list, short_list_suffices};
-pub use items::{Bound, Clock, Event, Follow, Message, Node};
+pub use items::{Bound, Clock, Event, Follow, Message, Node, StampBounds};
 pub use limits::{MOST_CLOCKS, MOST_EVENTS, MOST_MESSAGES, MOST_STEPS};
 pub use name::Name;

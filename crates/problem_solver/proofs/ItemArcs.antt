@@ -84,14 +84,14 @@ module _ (p : ProblemLists) (readings : List Reading) (are : AreReadings p readi
   -- ---- stamps
   module _ (e : ℕ) (v : Event) (there : EventAt p e v) (c : Clock) (at : ClockAt p v.clock c) (k : ℕ) (reading : slice_get readings k ≡ Some (v.clock, v.stamp)) (n : ℕ) (n_is : n ≡ length p.events + k) (arcs : List Arc) where
     abbrev HasStamped : ProblemLists → Type 0
-    HasStamped q = (w : Event) × EventAt q e w × (w.clock ≡ v.clock) × (w.stamp ≡ v.stamp) × ClockAt q v.clock c
+    HasStamped q = (w : Event) × EventAt q e w × (w.clock ≡ v.clock) × (w.stamp ≡ v.stamp) × (w.bounds ≡ v.bounds) × ClockAt q v.clock c
 
-    pub event_among : AreArcsOf (Late e ∷ Early e ∷ []) (HaveNumbers n (nodes.Reading v.clock v.stamp) e (nodes.Event e)) (λ q. (w : Event) × EventAt q e w × (w.clock ≡ v.clock) × (w.stamp ≡ v.stamp) × ClockAt q v.clock c) arcs
+    pub event_among : AreArcsOf (Late e ∷ Early e ∷ []) (HaveNumbers n (nodes.Reading v.clock v.stamp) e (nodes.Event e)) (λ q. (w : Event) × EventAt q e w × (w.clock ≡ v.clock) × (w.stamp ≡ v.stamp) × (w.bounds ≡ v.bounds) × ClockAt q v.clock c) arcs
         → AreBoundsAmong p (nodes_of p readings) (Late e ∷ Early e ∷ []) arcs
     event_among made =
         among p (nodes_of p readings) (Late e ∷ Early e ∷ []) (HaveNumbers n (nodes.Reading v.clock v.stamp) e (nodes.Event e)) HasStamped arcs made
         (ap (slice_get (nodes_of p readings)) n_is ∙ reading_stands p readings k (v.clock, v.stamp) reading, event_stands p readings e (slice_get_within p.events e v there))
-        (v, there, refl, refl, at)
+        (v, there, refl, refl, refl, at)
 
   -- ---- follows
   module _ (c s d t gap k l : ℕ) (declares : Declares p (Follow c s d t) (gap_between c s d t gap)) (first : slice_get readings k ≡ Some (c, s)) (second : slice_get readings l ≡ Some (d, t))

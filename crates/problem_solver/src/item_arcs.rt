@@ -81,7 +81,15 @@ fn arcs_of_event(p: &Problem, place: u32, event: &Event, reading: u32) -> Arcs
 {
     let clock = &p.clocks()[event.clock as usize];
     let node = node_of_reading(p, reading);
-    stamp_arcs(place, event.clock, clock, event.stamp, node, place)
+    stamp_arcs(
+        place,
+        event.clock,
+        clock,
+        event.stamp,
+        &event.bounds,
+        node,
+        place,
+    )
 }
 
 // Those of the delay of a message.

@@ -46,6 +46,7 @@ use Rattle.widen.specs.WideningText.{widening_head, least_word, least_words, lea
 use Rattle.widen.specs.ReadsWidening.{FitsCycle, FitsWidening, IsWideningTextOf}
 use Rattle.widen.specs.JudgedText.{JudgesText}
 use Rattle.widen.specs.Found.{IsRunAt, IsCycleAt, IsFoundBelow, FindsWidening}
+use Rattle.widen.proofs.SameNodes.{nodes_same}
 use Rattle.widen.proofs.Solved.{wider}
 use Rattle.widen.proofs.Rising.{shown_least, shown_never}
 use Rattle.widen.proofs.Naming.{what_spelled}
@@ -63,7 +64,7 @@ module _ (what : What) (p : ProblemLists) (e : ℕ) where
   one_each : (execution : List ℤ) → IsRunAt what p e execution → HasOneEach p execution
   one_each execution found =
       let listed = found.earliest.1 in
-      (listed.0, readings_back what p e listed.0 listed.1, ap length listed.2 ∙ length-map (nodes_of p listed.0) found.earliest.0)
+      (listed.0, readings_back what p e listed.0 listed.1, ap length listed.2 ∙ length-map (nodes_of (widened what p e) listed.0) found.earliest.0 ∙ ap length (nodes_same what p e listed.0))
 
   runs : (execution : List ℤ) → IsRunAt what p e execution → IsExecutionOf (widened what p e) execution
   runs execution found = (found.earliest.0, found.earliest.1, found.earliest.2.execution)

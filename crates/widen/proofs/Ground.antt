@@ -1,10 +1,11 @@
 -- What solving the graph of a widened problem says of the problem.
-use Rattle.std.proofs.Common.{◌≡◌, ◌+◌, ◌∙◌, ℕ, zero, suc, List, [], ◌∷◌, ◌++◌, length, map, get_or, refl, sym, ap, subst, arith}
+use Rattle.std.proofs.Common.{◌≡◌, ◌≤◌, ◌+◌, ◌∙◌, ℕ, zero, suc, List, [], ◌∷◌, ◌++◌, length, map, get_or, refl, sym, ap, subst, arith}
 use Rattle.std.specs.Prelude.{ℤ}
 use Rattle.std.specs.List.{range_with_len}
 use Rattle.std.specs.List.Sorted.{IsPermutation}
 use Rattle.std.proofs.lemmas.List.{length-map}
 use Rattle.std.proofs.lemmas.List.Sorted.{IsPermutation-refl}
+use Rattle.problem_model.specs.declared.items.Node.{Node}
 use Rattle.problem_model.specs.Problem.{ProblemLists, IsProblem}
 use Rattle.problem_model.specs.Nodes.{Reading, AreReadings}
 use Rattle.sync_graph.specs.declared.arc.Arc.{Arc}
@@ -19,6 +20,7 @@ use Rattle.cert_check.proofs.Comparing.{unwidened}
 use Rattle.widen.specs.Weighed.{unweighed}
 use Rattle.problem_graph.specs.HeldBounds.{HoldsShortList}
 use Rattle.widen.specs.Found.{IsRunAt, IsCycleFor}
+use Rattle.widen.proofs.SameNodes.{nodes_same}
 use Rattle.widen.proofs.Solved.{earliest_of, values_under, sound_arc, cycle_contradicts, cycle_short}
 
 -- ---- the order in which arcs stand
@@ -45,7 +47,9 @@ module _ (what : What) (p : ProblemLists) (e : ℕ) (g : GraphLists) (lawful : I
   pub cycle_found : (arcs : List Arc) → IsNegativeCycle g arcs → IsCycleFor what p e arcs
   cycle_found arcs cycle = record {
     contradiction = cycle_contradicts (widened what p e) g is readings (readings_on what p e readings are) holds arcs cycle;
-    short = λ rs are'. cycle_short (widened what p e) g is readings (readings_on what p e readings are) holds arcs cycle rs (readings_on what p e rs are');
+    short = λ rs are'.
+        subst (λ (ns : List Node). length arcs ≤ length ns) (nodes_same what p e rs)
+        (cycle_short (widened what p e) g is readings (readings_on what p e readings are) holds arcs cycle rs (readings_on what p e rs are'));
     small = λ i d inside. sound_arc (widened what p e) g is readings (readings_on what p e readings are) holds (get_or arcs i d) (cycle.in_force i d inside);
   }
 

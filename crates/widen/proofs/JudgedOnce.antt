@@ -1,5 +1,5 @@
 -- What judging answers is yes exactly where the widening shows what it should, and is one.
-use Rattle.std.proofs.Common.{◌≡◌, ◌-◌, ◌↔◌, ℕ, List, Option, Some, None, sym, ◌∙◌, subst, inl, inr}
+use Rattle.std.proofs.Common.{◌≡◌, ◌-◌, ◌↔◌, ℕ, List, length, map, Option, Some, None, sym, ◌∙◌, ap, subst, inl, inr}
 use Rattle.std.specs.Prelude.{ℤ, All}
 use Rattle.problem_model.specs.Problem.{ProblemLists, IsWellFormed}
 use Rattle.problem_model.specs.Bounds.{Times}
@@ -20,13 +20,14 @@ use Rattle.widen.specs.declared.widening.Widening.{Widening}
 use Rattle.widen.specs.declared.widening.Widening.TheVariants.{Least, Never}
 use Rattle.widen.specs.Least.{most_extra}
 use Rattle.widen.specs.Widening.{HasCycle, IsWideningOf, ShowsBelow, ShowsWidening, IsAnswerBelow, IsJudged}
+use Rattle.widen.proofs.SameNodes.{nodes_same}
 
 -- ---- the nodes of a widened problem are those of the problem
 pub lists_on : (what : What) (p : ProblemLists) (e : ℕ) (x : Times) (values : List ℤ) → Lists p x values → Lists (widened what p e) x values
-lists_on what p e x values (readings, are, is) = (readings, readings_on what p e readings are, is)
+lists_on what p e x values (readings, are, is) = (readings, readings_on what p e readings are, is ∙ ap (map x) (sym (nodes_same what p e readings)))
 
 pub each_on : (what : What) (p : ProblemLists) (e : ℕ) (values : List ℤ) → HasOneEach p values → HasOneEach (widened what p e) values
-each_on what p e values (readings, are, is) = (readings, readings_on what p e readings are, is)
+each_on what p e values (readings, are, is) = (readings, readings_on what p e readings are, is ∙ ap length (sym (nodes_same what p e readings)))
 
 module _ (what : What) (p : ProblemLists) (lawful : IsWellFormed p) where
   -- ---- the execution

@@ -17,7 +17,7 @@ use Rattle.cert.specs.declared.chain.Step.{Step}
 use Rattle.cert.specs.Shows.{weighed_bounds}
 use Rattle.cert_check.specs.declared.what.What.{What}
 use Rattle.cert_check.specs.Widened.{widened}
-use Rattle.cert_check.proofs.Comparing.{declared_back, ends_same}
+use Rattle.cert_check.proofs.Comparing.{HaveSameStamps, declared_back, ends_same, widened_stamps}
 use Rattle.attain.specs.Tight.{IsUnder}
 use Rattle.widen.specs.Weighed.{IsNameOf, IsWeighed, unweighed, weighed_arcs, step_of, arc_of}
 use Rattle.widen.specs.Found.{IsCycleAt, IsCycleFor}
@@ -25,7 +25,7 @@ use Rattle.widen.proofs.Summing.{up_from}
 use Rattle.widen.proofs.Weighing.{abs_under, name_same, head_same, tail_same}
 
 -- ---- chains of the same arcs with other weights
-module _ (q r : ProblemLists) (events : q.events ≡ r.events) where
+module _ (q r : ProblemLists) (events : HaveSameStamps q r) where
   leads_on : (arcs others : List Arc) (m n : Node) → map unweighed others ≡ map unweighed arcs → All (IsWeighed r) others → Leads q m (weighed_arcs arcs) n → Leads r m (weighed_arcs others) n
   leads_on [] [] m n same weighed leads = leads
   leads_on [] (b ∷ others) m n same weighed leads = absurd cc
@@ -88,7 +88,7 @@ module _ (what : What) (p : ProblemLists) (e : ℕ) (arcs : List Arc) (lawful : 
       → weight_of (weighed_arcs others) <ℤ pos 0 → IsCycleFor other p last others
   later_cycle other last others same weighed small negative = record {
     contradiction = record {
-      closed = (found.contradiction.closed.0, leads_on (widened what p e) (widened other p last) refl arcs others found.contradiction.closed.0 found.contradiction.closed.0 same weighed found.contradiction.closed.1);
+      closed = (found.contradiction.closed.0, leads_on (widened what p e) (widened other p last) (widened_stamps what other p e last) arcs others found.contradiction.closed.0 found.contradiction.closed.0 same weighed found.contradiction.closed.1);
       negative = negative;
     };
     short = λ readings are. (let short = found.short readings are in omega (arith, short, same_long arcs others same));

@@ -1,3 +1,4 @@
+pub mod SameNodes
 pub mod Rising
 pub mod JudgedOnce
 pub mod Naming

@@ -83,7 +83,7 @@ module _ (p : ProblemLists) where
 
   -- ---- links as readings
   abbrev as_event : Message → Event
-  as_event m = record { name = []; clock = clock_of p.events m.send; stamp = clock_of p.events m.receive }
+  as_event m = record { name = []; clock = clock_of p.events m.send; stamp = clock_of p.events m.receive; bounds = None }
 
   abbrev of_links : ProblemLists
   of_links = record { clocks = []; follows = []; events = map as_event p.messages; messages = [] }

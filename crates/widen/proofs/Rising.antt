@@ -12,7 +12,7 @@ use Rattle.cert.specs.declared.chain.Step.{Step}
 use Rattle.cert.specs.Shows.{weighed_bounds}
 use Rattle.cert_check.specs.declared.what.What.{What}
 use Rattle.cert_check.specs.Widened.{widened}
-use Rattle.cert_check.proofs.Comparing.{ends_same, declared_less}
+use Rattle.cert_check.proofs.Comparing.{ends_same, declared_less, widened_stamps}
 use Rattle.widen.specs.declared.widening.Widening.TheVariants.{Least, Never}
 use Rattle.widen.specs.Least.{most_extra, HasExecution, IsLeastWidening, HasNoWidening}
 use Rattle.widen.specs.Widening.{IsWideningOf, ShowsWidening}
@@ -22,7 +22,7 @@ module _ (what : What) (p : ProblemLists) where
   rises e f x le execution b c declares =
       let less = declared_less what p e f le b c declares in
       let d = less.0 in
-      let ends = ends_same (widened what p f) (widened what p e) refl b c d declares less.1 in
+      let ends = ends_same (widened what p f) (widened what p e) (widened_stamps what what p f e) b c d declares less.1 in
       let from : x c.from ≡ x d.from = ap x ends.0 in
       let to : x c.to ≡ x d.to = ap x ends.1 in
       let obeyed : (x d.to -ℤ x d.from) ≤ℤ d.weight = execution b d less.1 in

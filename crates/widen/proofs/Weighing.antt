@@ -1,5 +1,5 @@
 -- Arcs and graphs of a problem with the weights that bounds have where it is widened.
-use Rattle.std.proofs.Common.{◌≡◌, ◌<◌, ◌^◌, ◌+◌, ℕ, Bool, true, List, [], ◌∷◌, ◌++◌, length, length-append, append_assoc, map, take, get_or, Some, refl, sym, ◌∙◌, ap, subst, arith}
+use Rattle.std.proofs.Common.{◌≡◌, ◌<◌, ◌^◌, ◌+◌, ℕ, Bool, true, List, [], ◌∷◌, ◌++◌, length, length-append, append_assoc, map, take, get_or, slice_get, Some, refl, sym, ◌∙◌, ap, subst, arith}
 use Rattle.std.specs.Prelude.{ℤ, pos, neg_ℤ, ◌<ℤ◌, All, Contains, unsigned_abs}
 use Rattle.std.specs.List.{flat_map}
 use Rattle.std.proofs.lemmas.Int.{ints}
@@ -24,9 +24,10 @@ use Rattle.sync_graph.proofs.InForce.{no_arc}
 use Rattle.attain.specs.Tight.{IsUnder}
 use Rattle.cert_check.specs.declared.what.What.{What}
 use Rattle.cert_check.specs.Widened.{widened}
-use Rattle.cert_check.proofs.Widening.{readings_back, joining_same}
-use Rattle.cert_check.proofs.Comparing.{ends_same}
+use Rattle.cert_check.proofs.Widening.{readings_back, stamps_same, joining_same}
+use Rattle.cert_check.proofs.Comparing.{ends_same, own_stamps}
 use Rattle.widen.specs.Weighed.{IsNameOf, IsWeighed, unweighed}
+use Rattle.widen.proofs.SameNodes.{nodes_same}
 
 -- ---- sizes
 pub abs_under : (w : ℤ) → unsigned_abs w < 2 ^ 93 → IsUnder 93 w
@@ -98,14 +99,17 @@ module _ (what : What) (p : ProblemLists) (e : ℕ) (readings : List Reading) wh
   abbrev q : ProblemLists
   q = widened what p e
 
+  node_on : (place : ℕ) (m n : Node) → m ≡ n → IsNodeAt p readings place m → IsNodeAt q readings place n
+  node_on place m n same at = ap (λ (ns : List Node). slice_get ns place) (nodes_same what p e readings) ∙ at ∙ ap Some same
+
   arc_declared : (a : Arc) (w : ℤ) → IsArcDeclared p readings a → IsWeighed q (with_weight w a) → IsArcDeclared q readings (with_weight w a)
   arc_declared a w (c, declares, arc) (d, declares', weighs) =
-      let ends = ends_same p q refl a.name c d declares declares' in (
+      let ends = ends_same p q (own_stamps what p e) a.name c d declares declares' in (
         d,
         declares',
         record {
-          tail = subst (λ (n : Node). IsNodeAt p readings a.from n) ends.0 arc.tail;
-          head = subst (λ (n : Node). IsNodeAt p readings a.to n) ends.1 arc.head;
+          tail = node_on a.from c.from d.from ends.0 arc.tail;
+          head = node_on a.to c.to d.to ends.1 arc.head;
           weighs = sym weighs;
         },
       )
@@ -125,7 +129,7 @@ module _ (what : What) (p : ProblemLists) (e : ℕ) (readings : List Reading) wh
   bounds_on : (bounds : List Bound) (g h : GraphLists) → HasBounds p readings bounds g → h.nodes ≡ g.nodes → map unweighed h.arcs ≡ map unweighed g.arcs → All (IsWeighed q) h.arcs → h.in_force ≡ map (λ (a : Arc). true) h.arcs
       → HasBounds q readings bounds h
   bounds_on bounds g h has nodes same weighed in_force = record {
-    nodes_are = nodes ∙ has.nodes_are;
+    nodes_are = nodes ∙ has.nodes_are ∙ sym (nodes_same what p e readings);
     all_in_force = in_force;
     named = names_of h.arcs ∙ ap (map (λ (u : ℕ × ℕ × Bound). u.2)) same ∙ sym (names_of g.arcs) ∙ has.named;
     declared = all_declared g.arcs h.arcs same has.declared weighed;
@@ -134,7 +138,8 @@ module _ (what : What) (p : ProblemLists) (e : ℕ) (readings : List Reading) wh
   -- a widened problem has the short list of the problem
   same_short_list : short_list q readings ≡ short_list p readings
   same_short_list =
-      append_assoc (span_bounds readings ++ event_bounds 0 p.events) (follow_bounds q.follows readings 0 q.clocks) (flat_map message_bounds q.messages)
+      ap (λ (bounds : List Bound). span_bounds readings ++ bounds ++ follow_bounds q.follows readings 0 q.clocks ++ flat_map message_bounds q.messages) (stamps_same what e p.events)
+      ∙ append_assoc (span_bounds readings ++ event_bounds 0 p.events) (follow_bounds q.follows readings 0 q.clocks) (flat_map message_bounds q.messages)
       ∙ ap (λ (bounds : List Bound). span_bounds readings ++ event_bounds 0 p.events ++ bounds) (joining_same what p e readings)
       ∙ sym (append_assoc (span_bounds readings ++ event_bounds 0 p.events) (follow_bounds p.follows readings 0 p.clocks) (flat_map message_bounds p.messages))
 

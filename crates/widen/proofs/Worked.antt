@@ -20,8 +20,8 @@ abbrev contradicting : Option ℕ → ProblemLists
 contradicting most = record {
   clocks = clock_of_zeros (codes "a") ∷ clock_of_zeros (codes "b") ∷ [];
   follows = [];
-  events = record { name = codes "a#1"; clock = 0; stamp = 100 } ∷ record { name = codes "a#2"; clock = 0; stamp = 195 }
-      ∷ record { name = codes "b#1"; clock = 1; stamp = 250 } ∷ record { name = codes "b#2"; clock = 1; stamp = 300 } ∷ [];
+  events = record { name = codes "a#1"; clock = 0; stamp = 100; bounds = None } ∷ record { name = codes "a#2"; clock = 0; stamp = 195; bounds = None }
+      ∷ record { name = codes "b#1"; clock = 1; stamp = 250; bounds = None } ∷ record { name = codes "b#2"; clock = 1; stamp = 300; bounds = None } ∷ [];
   messages = record { send = 0; receive = 2; least = 10; most = most } ∷ record { send = 3; receive = 1; least = 10; most = most } ∷ [];
 }
 
@@ -37,7 +37,7 @@ abbrev followed : ℕ → ProblemLists
 followed gap = record {
   clocks = clock_of_zeros (codes "a") ∷ clock_of_zeros (codes "b") ∷ [];
   follows = record { earlier = 0; later = 1; gap = gap } ∷ [];
-  events = record { name = codes "a#1"; clock = 0; stamp = 0 } ∷ record { name = codes "b#1"; clock = 1; stamp = 0 } ∷ [];
+  events = record { name = codes "a#1"; clock = 0; stamp = 0; bounds = None } ∷ record { name = codes "b#1"; clock = 1; stamp = 0; bounds = None } ∷ [];
   messages = record { send = 1; receive = 0; least = 1; most = None } ∷ [];
 }
 
@@ -67,7 +67,7 @@ abbrev hopeless : ProblemLists
 hopeless = record {
   clocks = clock_of_zeros (codes "c") ∷ [];
   follows = [];
-  events = record { name = codes "p"; clock = 0; stamp = 0 } ∷ record { name = codes "q"; clock = 0; stamp = 10 } ∷ [];
+  events = record { name = codes "p"; clock = 0; stamp = 0; bounds = None } ∷ record { name = codes "q"; clock = 0; stamp = 10; bounds = None } ∷ [];
   messages = record { send = 0; receive = 1; least = 20; most = None } ∷ [];
 }
 

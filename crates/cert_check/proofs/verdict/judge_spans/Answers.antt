@@ -8,7 +8,7 @@ use Rattle.cert_check.specs.Verdict.{Judges, AreTimes}
 use Rattle.cert_check.specs.Widened.{widened}
 use Rattle.problem_model.proofs.Walking.{spans_more, spans_all, reading_there, clock_there}
 use Rattle.cert_check.proofs.Loops.{on, out, done}
-use Rattle.cert_check.proofs.Widening.{formed}
+use Rattle.cert_check.proofs.Widening.{formed, reading_on}
 use Rattle.cert_check.proofs.verdict.judge_spans.Goals as goal
 
 pub reading_time-from-requires-clause-within : goal.reading_time-from-requires-clause-within
@@ -43,7 +43,7 @@ returns-in_default-clause-verdict c = λ x readings times.
     let at' : slice_get {X = Reading} rs (k + 1) ≡ Some b = slice_get_read rs (length rs) (k + 1) b refl (omega (arith, c.loop-place-test.true, c.saturating_sub-last.ensures)) c.index-readings-place-in-loop-place.is in
     let there = reading_there p rs k a c.readings-readings.ensures (omega (arith, c.loop-place-test.true, c.saturating_sub-last.ensures)) c.index-readings-place.is in
     let there' = reading_there p rs (k + 1) b c.readings-readings.ensures (omega (arith, c.loop-place-test.true, c.saturating_sub-last.ensures)) c.index-readings-place-in-loop-place.is in
-    let judged = c.judge_neighbours.ensures.verdict q x (formed w p extra c.clocks.ensures.lawful.formed) c.clock_in-clock.ensures there there' (c.reading_time-from.ensures x rs a times' at) (c.reading_time-to.ensures x rs b times' at') in
+    let judged = c.judge_neighbours.ensures.verdict q x (formed w p extra c.clocks.ensures.lawful.formed) c.clock_in-clock.ensures (reading_on w p extra a.0 a.1 there) (reading_on w p extra b.0 b.1 there') (c.reading_time-from.ensures x rs a times' at) (c.reading_time-to.ensures x rs b times' at') in
     let all : Judges q x (span_bounds rs) c.judge_neighbours.result = out q x (span_bounds rs) (span_bounds (drop k rs)) (c.loop-place.invariant x times') (neighbour_bounds a b) (span_bounds (drop (k + 1) rs)) (spans_more rs k a b at at') c.judge_neighbours.result c.in_default.not-Obeys judged in
     subst (λ (l : List Reading). Judges q x (span_bounds l) c.judge_neighbours.result) same all
 
@@ -61,7 +61,7 @@ loop-place-preserved c = λ x times'.
     let at' : slice_get {X = Reading} rs (k + 1) ≡ Some b = slice_get_read rs (length rs) (k + 1) b refl (omega (arith, c.loop-place-test.true, c.saturating_sub-last.ensures)) c.index-readings-place-in-loop-place.is in
     let there = reading_there p rs k a c.readings-readings.ensures (omega (arith, c.loop-place-test.true, c.saturating_sub-last.ensures)) c.index-readings-place.is in
     let there' = reading_there p rs (k + 1) b c.readings-readings.ensures (omega (arith, c.loop-place-test.true, c.saturating_sub-last.ensures)) c.index-readings-place-in-loop-place.is in
-    let judged = c.judge_neighbours.ensures.verdict q x (formed w p extra c.clocks.ensures.lawful.formed) c.clock_in-clock.ensures there there' (c.reading_time-from.ensures x rs a times' at) (c.reading_time-to.ensures x rs b times' at') in
+    let judged = c.judge_neighbours.ensures.verdict q x (formed w p extra c.clocks.ensures.lawful.formed) c.clock_in-clock.ensures (reading_on w p extra a.0 a.1 there) (reading_on w p extra b.0 b.1 there') (c.reading_time-from.ensures x rs a times' at) (c.reading_time-to.ensures x rs b times' at') in
     on q x (span_bounds rs) (span_bounds (drop k rs)) (c.loop-place.invariant x times') (neighbour_bounds a b) (span_bounds (drop (k + 1) rs)) (spans_more rs k a b at at') (rw c.in-Obeys.is at judged)
 
 pub returns-clause-verdict : goal.returns-clause-verdict

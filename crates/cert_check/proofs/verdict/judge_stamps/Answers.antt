@@ -8,7 +8,7 @@ use Rattle.problem_model.specs.ShortList.{event_bounds}
 use Rattle.problem_model.proofs.Walking.{stamps_more, stamps_all}
 use Rattle.cert_check.specs.Widened.{widened}
 use Rattle.cert_check.proofs.Loops.{on, out, done}
-use Rattle.cert_check.proofs.Widening.{formed}
+use Rattle.cert_check.proofs.Widening.{formed, event_at}
 use Rattle.cert_check.proofs.verdict.judge_stamps.Goals as goal
 
 pub place_of-requires : goal.place_of-requires
@@ -32,9 +32,10 @@ returns-in_default-clause-verdict c = λ x readings times.
     let e = c.event-item.result in
     let is : c.events-event-items.result.now ≡ p.events = c.events-event-items.ensures.value in
     let there : slice_get p.events k ≡ Some e = subst (λ (es : List Event). slice_get es k ≡ Some e) is (slice_get_read c.events-event-items.result.now (length c.events-event-items.result.now) k e refl c.loop-place-test.true c.event-item.is) in
+    let wide = c.widened_event-wide.ensures in
     out q x (event_bounds 0 p.events) (event_bounds k (drop k p.events)) (c.loop-place.invariant x readings times)
     (Late k ∷ Early k ∷ []) (event_bounds (k + 1) (drop (k + 1) p.events)) (stamps_more p.events k e there) c.judge_stamp.result c.in_default.not-Obeys
-    (c.judge_stamp.ensures.verdict q x (formed w p extra c.clocks.ensures.lawful.formed) there c.clock_in-clock.ensures (c.reading_time-reading.ensures x readings (e.clock, e.stamp) times (c.place_of.ensures readings times.are_readings)) (c.event_time-time.ensures x readings times))
+    (c.judge_stamp.ensures.verdict q x (formed w p extra c.clocks.ensures.lawful.formed) (rw wide (event_at w extra p.events k e there)) (rw wide c.clock_in-clock.ensures) (rw wide (c.reading_time-reading.ensures x readings (e.clock, e.stamp) times (c.place_of.ensures readings times.are_readings))) (c.event_time-time.ensures x readings times))
 
 pub loop-place-preserved : goal.loop-place-preserved
 loop-place-preserved c = λ x readings times.
@@ -46,9 +47,10 @@ loop-place-preserved c = λ x readings times.
     let e = c.event-item.result in
     let is : c.events-event-items.result.now ≡ p.events = c.events-event-items.ensures.value in
     let there : slice_get p.events k ≡ Some e = subst (λ (es : List Event). slice_get es k ≡ Some e) is (slice_get_read c.events-event-items.result.now (length c.events-event-items.result.now) k e refl c.loop-place-test.true c.event-item.is) in
+    let wide = c.widened_event-wide.ensures in
     on q x (event_bounds 0 p.events) (event_bounds k (drop k p.events)) (c.loop-place.invariant x readings times)
     (Late k ∷ Early k ∷ []) (event_bounds (k + 1) (drop (k + 1) p.events)) (stamps_more p.events k e there)
-    (rw c.in-Obeys.is at (c.judge_stamp.ensures.verdict q x (formed w p extra c.clocks.ensures.lawful.formed) there c.clock_in-clock.ensures (c.reading_time-reading.ensures x readings (e.clock, e.stamp) times (c.place_of.ensures readings times.are_readings)) (c.event_time-time.ensures x readings times)))
+    (rw c.in-Obeys.is at (c.judge_stamp.ensures.verdict q x (formed w p extra c.clocks.ensures.lawful.formed) (rw wide (event_at w extra p.events k e there)) (rw wide c.clock_in-clock.ensures) (rw wide (c.reading_time-reading.ensures x readings (e.clock, e.stamp) times (c.place_of.ensures readings times.are_readings))) (c.event_time-time.ensures x readings times)))
 
 pub returns-clause-verdict : goal.returns-clause-verdict
 returns-clause-verdict c = λ x readings times.

@@ -17,7 +17,7 @@ returns-then-eq-3-clause-taken c =
 pub returns-then-eq-4-clause-taken : goal.returns-then-eq-4-clause-taken
 returns-then-eq-4-clause-taken c =
     let is : c.in-Some.first.now ≡ codes "event" = search rules in
-    subst (λ (b : List ℕ). Takes (problem_format c.args.version) c.args.items.now b c.event_line.result c.event_line.new.items) (sym (cut_word 32 _ _ _ (codes "event") (sym c.in-Some.ensures) is)) c.event_line.ensures.taken
+    subst (λ (b : List ℕ). Takes (problem_format c.args.version) c.args.items.now b c.any_event_line.result c.any_event_line.new.items) (sym (cut_word 32 _ _ _ (codes "event") (sym c.in-Some.ensures) is)) c.any_event_line.ensures.taken
 
 pub returns-then-eq-5-clause-taken : goal.returns-then-eq-5-clause-taken
 returns-then-eq-5-clause-taken c =

@@ -36,3 +36,6 @@ overflow_add-result c = let few = number_fits c.args.version c.args.lines.now _ 
 
 pub overflow_add-line : goal.overflow_add-line
 overflow_add-line c = let few = number_fits c.args.version c.args.lines.now _ _ _ c.loop-body.invariant in omega (arith, few)
+
+pub take-requires : goal.take-requires
+take-requires c = c.loop-body.invariant.sound.1

@@ -9,5 +9,5 @@ pub returns : goal.returns
 returns c =
     let fits : SFits w128 c.delay_units.result = search rules in
     let fits_early : SFits w128 c.delay_units-2.result = search rules in
-    simp to_z-of_z (stamp_are c.args.event c.args.place c.args.stamp c.args.reading c.args.node c.args.clock.now c.delay_units.result c.delay_units-2.result
-    c.delay_units.ensures.exact c.delay_units-2.ensures.exact c.delay_units.ensures.below c.delay_units-2.ensures.below)
+    simp to_z-of_z (stamp_are c.args.event c.args.place c.args.stamp c.args.reading c.args.node c.args.clock.now c.args.own.now c.delay_units.result c.delay_units-2.result
+    (rw c.late_by.ensures at c.delay_units.ensures.exact) (rw c.early_by.ensures at c.delay_units-2.ensures.exact) (rw c.late_by.ensures at c.delay_units.ensures.below) (rw c.early_by.ensures at c.delay_units-2.ensures.below))
