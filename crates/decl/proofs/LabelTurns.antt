@@ -16,9 +16,9 @@ use Rattle.toml.specs.declared.value.Value.{Value}
 use Rattle.decl.specs.Causes.{at, when, first, fault_of_entry, IsFirstOf}
 use Rattle.decl.specs.Declaration.{Precedes}
 use Rattle.decl.specs.Hosts.{HostLists, is_one_too_many}
-use Rattle.decl.specs.Inside.{NamesOf}
+use Rattle.decl.specs.Inside.{NamesOf, NumbersOf}
 use Rattle.decl.specs.Keys.{table_causes, entry_causes, entry_table}
-use Rattle.decl.specs.Labels.{has_wild_interface, is_log, is_misnamed, is_no_segment, label_causes, label_of, label_subnets, labels_faults, labels_of, places_at, said_causes, speaks_of_packets, trace_kind_at}
+use Rattle.decl.specs.Labels.{has_wild_bound, has_wild_interface, is_log, is_misnamed, is_no_segment, label_causes, label_of, label_subnets, labels_faults, labels_of, places_at, said_causes, speaks_of_packets, trace_kind_at}
 use Rattle.decl.specs.Names.{is_clock_name}
 use Rattle.decl.specs.Limits.{most_entries}
 use Rattle.decl.specs.Subnets.{given_in, has_many_subnets, subnet_causes, subnets_in}
@@ -30,6 +30,7 @@ use Rattle.decl.specs.declared.errors.Section.TheVariants.{Labels}
 use Rattle.decl.specs.declared.items.Label.{Label}
 use Rattle.decl.specs.declared.items.Subnet.{Subnet}
 use Rattle.decl.specs.declared.labels.Names.{Names}
+use Rattle.decl.specs.declared.labels.Numbers.{Numbers}
 use Rattle.decl.specs.declared.keys.Form.TheVariants as form
 use Rattle.decl.specs.declared.items.TraceKind.{TraceKind}
 use Rattle.decl.specs.declared.items.TraceKind.TheVariants.{Capture}
@@ -69,10 +70,10 @@ module _ (hosts : HostLists) (index : ℕ) (name : List ℕ) (ms : Members) (tab
     pub said_key : (is_log (trace_kind_at ms) && speaks_of_packets ms) ≡ true → first (said_causes hosts index name ms) ≡ Some Key
     said_key e = rw (table, named, e) refl
 
-    pub said_number : (is_log (trace_kind_at ms) && speaks_of_packets ms) ≡ false → ((is_one_too_many index || has_wild_interface ms) || has_many_subnets ms) ≡ true → first (said_causes hosts index name ms) ≡ Some Number
+    pub said_number : (is_log (trace_kind_at ms) && speaks_of_packets ms) ≡ false → (((is_one_too_many index || has_wild_interface ms) || has_many_subnets ms) || has_wild_bound ms) ≡ true → first (said_causes hosts index name ms) ≡ Some Number
     said_number k e = rw (table, named, k, e) refl
 
-    pub said_none : (is_log (trace_kind_at ms) && speaks_of_packets ms) ≡ false → ((is_one_too_many index || has_wild_interface ms) || has_many_subnets ms) ≡ false → said_causes hosts index name ms ≡ []
+    pub said_none : (is_log (trace_kind_at ms) && speaks_of_packets ms) ≡ false → (((is_one_too_many index || has_wild_interface ms) || has_many_subnets ms) || has_wild_bound ms) ≡ false → said_causes hosts index name ms ≡ []
     said_none k e = none_wrong _ _ _ _ table named k e
 
 -- ---- a label
@@ -90,29 +91,30 @@ cause_given hosts index name ms cause e none h is = fault_at Labels index _ caus
 pub causes_none : (hosts : HostLists) (index : ℕ) (name : List ℕ) (ms : Members) → said_causes hosts index name ms ≡ [] → None ≡ first (subnet_causes [] (given_in ms)) → label_causes hosts index name ms ≡ []
 causes_none hosts index name ms none h = ap (λ (cs : List Cause). cs ++ subnet_causes [] (given_in ms)) none ∙ first_none _ h
 
-same_label : (name name' : List ℕ) (places places' : ℕ × ℕ) (kind kind' : TraceKind) (interface interface' : Option ℕ) (segment segment' : Option (List ℕ)) (before before' count count' : ℕ)
-    → name ≡ name' → places ≡ places' → kind ≡ kind' → interface ≡ interface' → segment ≡ segment' → before ≡ before' → count ≡ count'
-    → (let a : Label = record { name = name; host = places.0; clock = places.1; kind = kind; interface = interface; segment = segment; first_subnet = before; subnet_count = count } in a)
-    ≡ (let b : Label = record { name = name'; host = places'.0; clock = places'.1; kind = kind'; interface = interface'; segment = segment'; first_subnet = before'; subnet_count = count' } in b)
-same_label name name' places places' kind kind' interface interface' segment segment' before before' count count' p q r s t u v = rw (p, q, r, s, t, u, v) refl
+same_label : (name name' : List ℕ) (places places' : ℕ × ℕ) (kind kind' : TraceKind) (interface interface' : Option ℕ) (segment segment' : Option (List ℕ)) (early early' late late' : Option ℕ) (before before' count count' : ℕ)
+    → name ≡ name' → places ≡ places' → kind ≡ kind' → interface ≡ interface' → segment ≡ segment' → early ≡ early' → late ≡ late' → before ≡ before' → count ≡ count'
+    → (let a : Label = record { name = name; host = places.0; clock = places.1; kind = kind; interface = interface; segment = segment; early = early; late = late; first_subnet = before; subnet_count = count } in a)
+    ≡ (let b : Label = record { name = name'; host = places'.0; clock = places'.1; kind = kind'; interface = interface'; segment = segment'; early = early'; late = late'; first_subnet = before'; subnet_count = count' } in b)
+same_label name name' places places' kind kind' interface interface' segment segment' early early' late late' before before' count count' p q r s t e l u v = rw (p, q, r, s, t, e, l, u, v) refl
 
-pub label_made : (hosts : HostLists) (name : List ℕ) (ms : Members) (names : Names) (interface : Option ℕ) (old new : List Subnet) (before after : ℕ) → NamesOf hosts name ms names → interface ≡ optional_number (codes "interface") ms
+pub label_made : (hosts : HostLists) (name : List ℕ) (ms : Members) (names : Names) (numbers : Numbers) (old new : List Subnet) (before after : ℕ) → NamesOf hosts name ms names → NumbersOf ms numbers
     → new ≡ old ++ subnets_in ms → before ≡ length old → after ≡ length new
-    → (let l : Label = record { name = names.name; host = names.host; clock = names.clock; kind = names.kind; interface = interface; segment = names.segment; first_subnet = before; subnet_count = after - before } in l)
+    → (let l : Label = record { name = names.name; host = names.host; clock = names.clock; kind = names.kind; interface = numbers.interface; segment = names.segment; early = numbers.early; late = numbers.late; first_subnet = before; subnet_count = after - before } in l)
     ≡ label_of hosts (length old) name ms
-label_made hosts name ms names interface old new before after named faced added first last =
+label_made hosts name ms names numbers old new before after named numbered added first last =
     let many : length new ≡ length old + length (subnets_in ms) = ap length added ∙ length-append old (subnets_in ms) in
-    same_label _ _ (names.host, names.clock) _ _ _ _ _ _ _ _ _ _ _ named.name (ap (λ (o : Option (ℕ × ℕ)). unwrap_or o (0, 0)) named.places) (ap (λ (o : Option TraceKind). unwrap_or o Capture) named.kind)
-    faced named.segment first (omega (arith, first, last, many))
+    same_label _ _ (names.host, names.clock) _ _ _ _ _ _ _ _ _ _ _ _ _ _ _ named.name (ap (λ (o : Option (ℕ × ℕ)). unwrap_or o (0, 0)) named.places) (ap (λ (o : Option TraceKind). unwrap_or o Capture) named.kind)
+    numbered.interface named.segment numbered.early numbered.late first (omega (arith, first, last, many))
 
 -- a label without a fault has an index that may be, and few subnets
-numbers_tame : (hosts : HostLists) (index : ℕ) (name : List ℕ) (ms : Members) → said_causes hosts index name ms ≡ [] → ((is_one_too_many index || has_wild_interface ms) || has_many_subnets ms) ≡ false
+pub numbers_tame : (hosts : HostLists) (index : ℕ) (name : List ℕ) (ms : Members) → said_causes hosts index name ms ≡ [] → (((is_one_too_many index || has_wild_interface ms) || has_many_subnets ms) || has_wild_bound ms) ≡ false
 numbers_tame hosts index name ms e =
     not_so _ Number (no_parts (table_causes form.Label ms ++ when (is_misnamed hosts name ms) Name ++ when (is_log (trace_kind_at ms) && speaks_of_packets ms) Key) _ e).1
 
 pub said_few : (hosts : HostLists) (index : ℕ) (name : List ℕ) (ms : Members) → said_causes hosts index name ms ≡ [] → (index ≤ most_entries) × (length (subnets_in ms) ≤ 256)
 said_few hosts index name ms e =
-    let (front, many) = neither _ (has_many_subnets ms) (numbers_tame hosts index name ms e) in
+    let (counts, _) = neither _ (has_wild_bound ms) (numbers_tame hosts index name ms e) in
+    let (front, many) = neither _ (has_many_subnets ms) counts in
     let far : nat_lt most_entries index ≡ false = (neither _ (has_wild_interface ms) front).0 in
     let given = subnets_few (given_in ms) in
     let few : nat_lt 256 (length (given_in ms)) ≡ false = many in

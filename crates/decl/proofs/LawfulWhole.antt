@@ -10,10 +10,10 @@ use Rattle.toml.specs.Data.{Data, as_table, Items, no_items, item, Members, no_m
 use Rattle.decl.specs.Addresses.{none_known}
 use Rattle.decl.specs.Causes.{at, when}
 use Rattle.decl.specs.Clocks.{first_clock_place, if_owned, own_clock_place}
-use Rattle.decl.specs.Declaration.{IsDeclaration, IsSource, IsClockOf, LinkFits}
+use Rattle.decl.specs.Declaration.{IsDeclaration, IsSource, IsClockOf, LabelFits, LinkFits}
 use Rattle.decl.specs.Hosts.{HostLists, host_lists, hosts_of, clocks_of, hosts_faults, is_one_too_many}
 use Rattle.decl.specs.Keys.{table_causes, entry_causes, entry_table}
-use Rattle.decl.specs.Labels.{host_at_key, clock_at_key, is_log, is_misnamed, label_causes, label_of, labels_faults, labels_of, places_at, said_causes, speaks_of_packets, trace_kind_at}
+use Rattle.decl.specs.Labels.{has_wild_bound, host_at_key, clock_at_key, is_log, is_misnamed, label_causes, label_of, labels_faults, labels_of, places_at, said_causes, speaks_of_packets, trace_kind_at}
 use Rattle.decl.specs.Limits.{most_entries, most_payload, nano_limit}
 use Rattle.decl.specs.Links.{has_link, is_astray, link_causes, link_of, links_faults, links_of}
 use Rattle.decl.specs.Names.{is_clock_name}
@@ -30,7 +30,7 @@ use Rattle.decl.specs.declared.keys.Form.TheVariants as form
 use Rattle.decl.proofs.ClockNames.{clock_name_is}
 use Rattle.decl.proofs.Faults.{neither, no_causes, no_parts, not_false, not_so}
 use Rattle.decl.proofs.Fresh.{IsFresh, all_apart}
-use Rattle.decl.proofs.LabelTurns.{RiseLabels, label_few}
+use Rattle.decl.proofs.LabelTurns.{RiseLabels, label_few, numbers_tame}
 use Rattle.decl.proofs.Lawful as lawful_hosts
 use Rattle.decl.proofs.Lawful.{up_to_le, below_62, optional_fits, wild}
 use Rattle.decl.proofs.LinkTurns.{link_few}
@@ -116,6 +116,7 @@ module _ (hosts : HostLists) where
     named : IsClockName name
     placed : (label_of hosts 0 name ms).host < length hosts.names
     owned : IsClockOf hosts.owners (label_of hosts 0 name ms).host (label_of hosts 0 name ms).clock
+    fits : LabelFits (label_of hosts 0 name ms)
 
   good_label : (index : ℕ) (name : List ℕ) (o : Option Members) → entry_causes (label_causes hosts index name) o ≡ [] → GoodLabel name (unwrap_or o no_members)
   good_label index name None e = cc
@@ -128,12 +129,15 @@ module _ (hosts : HostLists) where
       let (name_places, _) = neither (not (is_clock_name name) || is_none (places_at hosts ms)) _ name_kind in
       let (named, known) = neither (not (is_clock_name name)) _ name_places in
       let (places, is) = is_given (places_at hosts ms) known in
+      let (_, bounds) = neither _ (has_wild_bound ms) (numbers_tame hosts index name ms said) in
+      let (early, late) = wild (is_up_to (nano_limit - 1) (whole_or_zero (codes "early") ms)) (is_up_to (nano_limit - 1) (whole_or_zero (codes "late") ms)) bounds in
       let good = places_are ms places is in
       let same : unwrap_or (places_at hosts ms) (0, 0) ≡ places = ap (λ (o : Option (ℕ × ℕ)). unwrap_or o (0, 0)) is in
       record {
         named = clock_name_is name (not_false _ named);
         placed = subst (λ (v : ℕ × ℕ). v.0 < length hosts.names) (sym same) good.0;
         owned = subst (λ (v : ℕ × ℕ). IsClockOf hosts.owners v.0 v.1) (sym same) good.1;
+        fits = (optional_fits (whole_at (codes "early") ms) early, optional_fits (whole_at (codes "late") ms) late);
       }
 
   label_here : (index : ℕ) (name : List ℕ) (d : Data) (ms : Members) → labels_faults hosts index (member name d ms) ≡ [] → entry_causes (label_causes hosts index name) (as_table d) ≡ []
@@ -297,6 +301,7 @@ lawful ms rise labels_rise e =
         labels_rise = labels_rise;
         label_hosts = labels_all lists (λ (l : Label). l.host < length names) (λ before name m good. good.placed) 1 0 (labels_in ms) labels;
         label_clocks = labels_all lists (λ (l : Label). IsClockOf lists.owners l.host l.clock) (λ before name m good. good.owned) 1 0 (labels_in ms) labels;
+        labels_fit = labels_all lists LabelFits (λ before name m good. good.fits) 1 0 (labels_in ms) labels;
       };
       links = record {
         link_starts = links_all names (λ (l : Link). l.from < length names) (λ before m good. good.start) 1 [] (links_in ms) links;

@@ -1,12 +1,13 @@
 -- What a declaration says, and the rules that it meets.
-use Rattle.std.specs.Prelude.{◌≡◌, ◌≢◌, ℕ, Bool, true, false, not, ◌&&◌, ◌+◌, ◌<◌, ◌≤◌, ◌==◌, if◌then◌else◌, List, length, take, drop, slice_get, position, Option, Some, None, option_map, option_to_list, unwrap_or, IfSome, All, AllPairs, ℤ, pos, nat_abs}
-use Rattle.std.specs.List.{flat_map, range_with_len}
+use Rattle.std.specs.Prelude.{◌≡◌, ◌≢◌, ℕ, Bool, true, false, not, ◌&&◌, ◌+◌, ◌<◌, ◌≤◌, ◌==◌, if◌then◌else◌, List, length, take, drop, slice_get, position, Option, Some, None, is_some, ◌||◌, option_map, option_to_list, unwrap_or, IfSome, All, AllPairs, ℤ, pos, nat_abs}
+use Rattle.std.specs.List.{flat_map, list_any, range_with_len}
 use Rattle.std.specs.Ordering.{nat_cmp}
 use Rattle.std.specs.Str.{bytes_eq}
 use Rattle.std.specs.declared.cmp.Ordering.TheVariants.{Less}
 use Rattle.std.specs.Cmp.Lexicographic.{slice_cmp}
 use Rattle.problem_model.specs.declared.items.Clock.{Clock}
 use Rattle.problem_model.specs.declared.items.Follow.{Follow}
+use Rattle.problem_model.specs.declared.items.StampBounds.{StampBounds}
 use Rattle.problem_model.specs.Name.{IsClockName}
 use Rattle.problem_model.specs.Problem.{ClockFits}
 use Rattle.problem_model.specs.Limits.{most_clocks}
@@ -52,6 +53,10 @@ Precedes a b = slice_cmp nat_cmp a b ≡ Less
 abbrev pub LinkFits : Link → Type 0
 LinkFits l = (l.least < nano_limit) × IfSome l.most (λ most. most < nano_limit)
 
+-- so are the bounds of a label's own stamps
+abbrev pub LabelFits : Label → Type 0
+LabelFits l = IfSome l.early (λ early. early < nano_limit) × IfSome l.late (λ late. late < nano_limit)
+
 -- the clock at this place is never short or long
 abbrev pub IsSource : List Clock → ℕ → Type 0
 IsSource clocks place = (c : Clock) × (slice_get clocks place ≡ Some c) × (c.rate.short ≡ 0) × (c.rate.long ≡ 0)
@@ -92,12 +97,13 @@ pub record HasLawfulAddresses6 (d : Declaration) : Type 0 where
   pub address6_hosts : All (λ a. a.host < length d.hosts) d.addresses6
   pub addresses6_differ : AllPairs (λ a b. a.address ≢ b.address) d.addresses6
 
--- labels rise by their names, and each is of a host and of a clock of that host
+-- labels rise by their names, each is of a host and of a clock of that host, and bounds are in their ranges
 pub record HasLawfulLabels (d : Declaration) : Type 0 where
   pub label_names : All (λ l. IsClockName l.name) d.labels
   pub labels_rise : AllPairs (λ a b. Precedes a.name b.name) d.labels
   pub label_hosts : All (λ l. l.host < length d.hosts) d.labels
   pub label_clocks : All (λ l. IsClockOf d.owners l.host l.clock) d.labels
+  pub labels_fit : All LabelFits d.labels
 
 -- links join hosts, no two of them the same in the same order, and have numbers in their ranges
 pub record HasLawfulLinks (d : Declaration) : Type 0 where
@@ -180,6 +186,26 @@ is_same_segment (Some a) (Some b) = bytes_eq a b
 -- the number of a label's segment: the place of the first label of it
 abbrev pub segment_of : Declaration → Label → ℕ
 segment_of d l = unwrap_or (position (λ other. is_same_segment other.segment l.segment) d.labels) 0
+
+-- a label gives a bound of its trace's own stamps
+abbrev pub gives_bound : Label → Bool
+gives_bound l = is_some l.early || is_some l.late
+
+-- some label does
+abbrev pub has_own_bounds : Declaration → Bool
+has_own_bounds d = list_any gives_bound d.labels
+
+-- the bounds of a trace's stamps: its label's own, and for one that this does not give that of the clock
+abbrev pub bounds_with : Label → Clock → StampBounds
+bounds_with l c = record { early = unwrap_or l.early c.early; late = unwrap_or l.late c.late }
+
+-- the same by the label's clock; None where it has none
+abbrev pub bounds_at : Declaration → Label → Option StampBounds
+bounds_at d l = option_map (bounds_with l) (slice_get d.clocks l.clock)
+
+-- the bounds that events of a label's trace have of their own: None where those of their clocks count for all traces
+abbrev pub own_bounds : Declaration → Label → Option StampBounds
+own_bounds d l = if has_own_bounds d then bounds_at d l else None
 
 -- what a declaration says of the delay from one host to another
 abbrev pub link_bounds : Declaration → ℕ → ℕ → ℕ × Option ℕ

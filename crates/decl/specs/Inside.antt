@@ -2,8 +2,9 @@
 use Rattle.std.specs.Prelude.{◌≡◌, ◌<◌, ℕ, List, None, Some, codes}
 use Rattle.toml.specs.Data.{Members}
 use Rattle.decl.specs.Labels.{places_at, trace_kind_at}
-use Rattle.decl.specs.Values.{text_at}
+use Rattle.decl.specs.Values.{optional_number, text_at}
 use Rattle.decl.specs.declared.labels.Names.{Names}
+use Rattle.decl.specs.declared.labels.Numbers.{Numbers}
 use Rattle.decl.specs.declared.hosts.Books.{Books}
 use Rattle.decl.specs.declared.hosts.Hosts.{Hosts}
 use Rattle.decl.specs.declared.items.Owner.{Owner}
@@ -25,6 +26,12 @@ pub record NamesOf (hosts : HostLists) (given : List ℕ) (ms : Members) (names 
   pub places : Some (names.host, names.clock) ≡ places_at hosts ms
   pub kind : Some names.kind ≡ trace_kind_at ms
   pub segment : names.segment ≡ text_at (codes "segment") ms
+
+-- what it read of its numbers
+pub record NumbersOf (ms : Members) (numbers : Numbers) : Type 0 where
+  pub interface : numbers.interface ≡ optional_number (codes "interface") ms
+  pub early : numbers.early ≡ optional_number (codes "early") ms
+  pub late : numbers.late ≡ optional_number (codes "late") ms
 
 -- clocks of this host come next: each host before it has one, and none behind it
 pub record IsTurnOf (owners : List Owner) (host : ℕ) : Type 0 where

@@ -16,7 +16,7 @@ abbrev pub shapes : Form → List (List ℕ × Shape)
 shapes Document = (codes "hosts", Table) ∷ (codes "labels", Table) ∷ (codes "links", Array) ∷ (codes "payload_bytes", Whole) ∷ (codes "source", Text) ∷ (codes "tcp_options", Flag) ∷ (codes "fragments", Flag) ∷ (codes "window", Whole) ∷ []
 shapes Host = (codes "short", Whole) ∷ (codes "long", Whole) ∷ (codes "early", Whole) ∷ (codes "late", Whole) ∷ (codes "offset", Whole) ∷ (codes "addresses", Texts) ∷ (codes "addresses6", Texts) ∷ (codes "clocks", Array) ∷ []
 shapes Clock = (codes "name", Text) ∷ (codes "short", Whole) ∷ (codes "long", Whole) ∷ (codes "early", Whole) ∷ (codes "late", Whole) ∷ (codes "gap", Whole) ∷ (codes "offset", Whole) ∷ []
-shapes Label = (codes "host", Text) ∷ (codes "kind", Text) ∷ (codes "clock", Text) ∷ (codes "segment", Text) ∷ (codes "interface", Whole) ∷ (codes "addresses", Texts) ∷ (codes "addresses6", Texts) ∷ (codes "beyond", Texts) ∷ (codes "beyond6", Texts) ∷ []
+shapes Label = (codes "host", Text) ∷ (codes "kind", Text) ∷ (codes "clock", Text) ∷ (codes "segment", Text) ∷ (codes "early", Whole) ∷ (codes "late", Whole) ∷ (codes "interface", Whole) ∷ (codes "addresses", Texts) ∷ (codes "addresses6", Texts) ∷ (codes "beyond", Texts) ∷ (codes "beyond6", Texts) ∷ []
 shapes Link = (codes "from", Text) ∷ (codes "to", Text) ∷ (codes "least", Whole) ∷ (codes "most", Whole) ∷ []
 
 -- what the value of a key has to be; None for another key

@@ -1,11 +1,11 @@
 -- What is wrong with labels, and what they declare.
-use Rattle.std.specs.Prelude.{ℕ, ◌+◌, Bool, true, false, not, ◌&&◌, ◌||◌, if◌then◌else◌, is_none, List, [], ◌∷◌, ◌++◌, length, codes, Option, Some, None, unwrap_or, option_map, option_and_then}
+use Rattle.std.specs.Prelude.{ℕ, ◌+◌, ◌-◌, Bool, true, false, not, ◌&&◌, ◌||◌, if◌then◌else◌, is_none, List, [], ◌∷◌, ◌++◌, length, codes, Option, Some, None, unwrap_or, option_map, option_and_then}
 use Rattle.std.specs.Str.{bytes_eq}
 use Rattle.toml.specs.Data.{as_table, Members, no_members, member}
 use Rattle.decl.specs.Causes.{when, at}
 use Rattle.decl.specs.Clocks.{first_clock_place, own_clock_place}
 use Rattle.decl.specs.Hosts.{HostLists, is_one_too_many}
-use Rattle.decl.specs.Limits.{most_interface}
+use Rattle.decl.specs.Limits.{most_interface, nano_limit}
 use Rattle.decl.specs.Subnets.{given_in, has_many_subnets, subnet_causes, subnets_in}
 use Rattle.decl.specs.Keys.{table_causes, entry_causes, entry_table, lacks_one}
 use Rattle.decl.specs.Names.{is_clock_name}
@@ -64,10 +64,14 @@ speaks_of_packets ms = not (lacks_one (codes "interface") ms && lacks_one (codes
 abbrev pub has_wild_interface : Members → Bool
 has_wild_interface ms = not (is_up_to most_interface (whole_or_zero (codes "interface") ms))
 
+-- a bound of the trace's own stamps is out of its range
+abbrev pub has_wild_bound : Members → Bool
+has_wild_bound ms = not (is_up_to (nano_limit - 1) (whole_or_zero (codes "early") ms)) || not (is_up_to (nano_limit - 1) (whole_or_zero (codes "late") ms))
+
 -- what is wrong with the table of a label, beside its subnets
 abbrev pub said_causes : HostLists → ℕ → List ℕ → Members → List Cause
 said_causes hosts index name ms = table_causes form.Label ms ++ when (is_misnamed hosts name ms) Name ++ when (is_log (trace_kind_at ms) && speaks_of_packets ms) Key
-    ++ when (is_one_too_many index || has_wild_interface ms || has_many_subnets ms) Number
+    ++ when (is_one_too_many index || has_wild_interface ms || has_many_subnets ms || has_wild_bound ms) Number
 
 -- what is wrong with the table of a label
 abbrev pub label_causes : HostLists → ℕ → List ℕ → Members → List Cause
@@ -82,6 +86,8 @@ label_of hosts before name ms = record {
   kind = unwrap_or (trace_kind_at ms) Capture;
   interface = optional_number (codes "interface") ms;
   segment = text_at (codes "segment") ms;
+  early = optional_number (codes "early") ms;
+  late = optional_number (codes "late") ms;
   first_subnet = before;
   subnet_count = length (subnets_in ms);
 }

@@ -36,7 +36,8 @@ pub enum DeclError {
     #[error("{number} {section} {index}")]
     Fault {
         /// What is wrong: 1, no document; 2, a key that may not stand there, or a missing one; 3, a value of another
-        /// shape; 4, a name; 5, a number, or one entry too many; 6, an address; 7, the source; 8, too many bytes.
+        /// shape; 4, a name; 5, a number, or one entry too many; 6, an address; 7, the source; 8, too many bytes;
+        /// 9, an address on both sides of a label.
         number: u32,
         /// Where it is.
         section: Section,

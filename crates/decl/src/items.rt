@@ -86,6 +86,10 @@ pub struct Label {
     /// The name of the segment that the trace was taken on: a message joins two events of one segment. Labels that name none
     /// are of one segment too.
     pub segment: Option<Name>,
+    /// How far before the readings of its stamps its events may lie, in ns below 2^62; None where it is the clock's.
+    pub early: Option<Nano>,
+    /// How far behind them; None where it is the clock's.
+    pub late: Option<Nano>,
     /// The place of its first subnet among those of the declaration, from 0 on.
     pub first_subnet: u32,
     /// How many subnets it has: at most 256.

@@ -92,7 +92,7 @@ fn label_shape(key: &str) -> Option<Shape>
 {
     match key {
         "host" | "kind" | "clock" | "segment" => Some(Shape::Text),
-        "interface" => Some(Shape::Whole),
+        "early" | "late" | "interface" => Some(Shape::Whole),
         "addresses" | "addresses6" | "beyond" | "beyond6" => Some(Shape::Texts),
         _ => None,
     }

@@ -8,9 +8,9 @@ ghost use Rattle.decl.specs.declared.cause.Cause.TheVariants as cause;
 ghost use Rattle.decl.specs.Clocks.{own_clock_place};
 ghost use Rattle.decl.specs.Declaration.{Precedes};
 ghost use Rattle.decl.specs.declared.items.IpVersion.TheVariants as version;
-ghost use Rattle.decl.specs.Inside.{NamesOf, hosts_and_clocks};
+ghost use Rattle.decl.specs.Inside.{NamesOf, NumbersOf, hosts_and_clocks};
 ghost use Rattle.decl.specs.Keys.{entry_causes, entry_table};
-ghost use Rattle.decl.specs.Labels.{trace_kind_of, host_at_key, clock_at_key, places_at, is_misnamed, is_no_segment, speaks_of_packets, has_wild_interface, said_causes, label_causes, label_of, is_log, label_subnets, labels_faults, labels_of};
+ghost use Rattle.decl.specs.Labels.{trace_kind_of, host_at_key, clock_at_key, places_at, is_misnamed, is_no_segment, speaks_of_packets, has_wild_interface, has_wild_bound, said_causes, label_causes, label_of, is_log, label_subnets, labels_faults, labels_of};
 ghost use Rattle.decl.specs.Subnets.{given_by, given_in, has_many_subnets, subnet_causes, subnets_by, subnets_in};
 ghost use Rattle.decl.specs.Hosts.{is_one_too_many};
 ghost use Rattle.decl.specs.Values.{optional_number, text_at};
@@ -23,8 +23,9 @@ use crate::hosts::{Hosts, read_clock_name};
 use crate::keys::{Form, check_table, lacks_one};
 use crate::limits::{MOST_ENTRIES, MOST_INTERFACE, MOST_SUBNETS};
 use crate::subnets::add_subnets;
-use crate::values::{items_or_none, number_up_to, text_at, text_or_empty, whole_at};
+use crate::values::{items_or_none, number_up_to, optional_nano, text_at, text_or_empty, whole_at};
 use crate::{DeclError, IpVersion, Label, Section, Subnet, TraceKind};
+use atto::Nano;
 use problem_model::Name;
 use std::alloc::{AllocError, Global};
 use toml::{Table, Value};
@@ -192,6 +193,42 @@ fn read_interface(index: u32, table: &Table) -> Result<Option<u32>, Cause>
     }
 }
 
+// The bounds of the trace's own stamps, if it says any; `Err` where one is out of its range.
+fn read_bounds(table: &Table) -> Result<(Option<Nano>, Option<Nano>), Cause>
+    ensures ok { IfOk result (λ bounds. (bounds.0 ≡ optional_number (codes "early") (table_view table.now)) × (bounds.1 ≡ optional_number (codes "late") (table_view table.now)) × (has_wild_bound (table_view table.now) ≡ false)) }
+    ensures err { IfErr result (λ fault. (fault ≡ cause.Number) × (has_wild_bound (table_view table.now) ≡ true)) }
+{
+    let Some(early) = optional_nano(table, "early") else {
+        return Err(Cause::Number);
+    };
+    let Some(late) = optional_nano(table, "late") else {
+        return Err(Cause::Number);
+    };
+    Ok((early, late))
+}
+
+// The numbers that a label says.
+#[derive(Clone, Copy)]
+struct Numbers {
+    interface: Option<u32>,
+    early: Option<Nano>,
+    late: Option<Nano>,
+}
+
+// The numbers that a label says; `Err` where one of them or how many subnets there are is out of its range.
+fn read_numbers(index: u32, table: &Table) -> Result<Numbers, Cause>
+    ensures ok { IfOk result (λ numbers. NumbersOf (table_view table.now) numbers × ((is_one_too_many index || has_wild_interface (table_view table.now) || has_many_subnets (table_view table.now) || has_wild_bound (table_view table.now)) ≡ false)) }
+    ensures err { IfErr result (λ fault. (fault ≡ cause.Number) × ((is_one_too_many index || has_wild_interface (table_view table.now) || has_many_subnets (table_view table.now) || has_wild_bound (table_view table.now)) ≡ true)) }
+{
+    let interface = read_interface(index, table)?;
+    let (early, late) = read_bounds(table)?;
+    Ok(Numbers {
+        interface,
+        early,
+        late,
+    })
+}
+
 // Appends the subnets on one side of a label, whose subnets stand from a place on; the first cause, where something is
 // wrong with one of them.
 fn add_side(
@@ -230,16 +267,11 @@ fn read_subnets(table: &Table, subnets: &mut Vec<Subnet>) -> Result<Option<Cause
 }
 
 // What a label says beside its subnets.
-fn read_own(
-    hosts: &Hosts,
-    index: u32,
-    name: &str,
-    table: &Table,
-) -> Result<(Names, Option<u32>), Cause>
+fn read_own(hosts: &Hosts, index: u32, name: &str, table: &Table) -> Result<(Names, Numbers), Cause>
     requires rising { AllPairs Precedes hosts.now.names.items }
     requires few { length hosts.now.names.items ≤ most_entries }
     requires named { All (λ c. IsClockName c.name) hosts.now.clocks.clocks }
-    ensures ok { IfOk result (λ own. NamesOf (hosts_and_clocks hosts.now) name.now (table_view table.now) own.0 × (own.1 ≡ optional_number (codes "interface") (table_view table.now)) × (said_causes (hosts_and_clocks hosts.now) index name.now (table_view table.now) ≡ [])) }
+    ensures ok { IfOk result (λ own. NamesOf (hosts_and_clocks hosts.now) name.now (table_view table.now) own.0 × NumbersOf (table_view table.now) own.1 × (said_causes (hosts_and_clocks hosts.now) index name.now (table_view table.now) ≡ [])) }
     ensures err { IfErr result (λ cause. first (said_causes (hosts_and_clocks hosts.now) index name.now (table_view table.now)) ≡ Some cause) }
 {
     check_table(Form::Label, table)?;
@@ -249,8 +281,8 @@ fn read_own(
     if is_log(names.kind) && speaks_of_packets(table) {
         return Err(Cause::Key);
     }
-    let interface = read_interface(index, table)?;
-    Ok((names, interface))
+    let numbers = read_numbers(index, table)?;
+    Ok((names, numbers))
 }
 
 // The label with this index and name, whose subnets go behind those of labels before.
@@ -270,7 +302,7 @@ fn read_label(
     ensures added { OnOk result (subnets.new.items ≡ subnets.old.items ++ subnets_in (table_view table.now)) }
     ensures fault { IfErr result (λ e. IsFirstOf (at Section.Labels index (label_causes (hosts_and_clocks hosts.now) index name.now (table_view table.now))) e) }
 {
-    let (names, interface) = match read_own(hosts, index, name, table) {
+    let (names, numbers) = match read_own(hosts, index, name, table) {
         Ok(own) => own,
         Err(cause) => return Err(cause.at(Section::Labels, index)),
     };
@@ -283,8 +315,10 @@ fn read_label(
         host: names.host,
         clock: names.clock,
         kind: names.kind,
-        interface,
+        interface: numbers.interface,
         segment: names.segment,
+        early: numbers.early,
+        late: numbers.late,
         first_subnet,
         subnet_count: subnets.len() as u32 - first_subnet,
     })
@@ -326,6 +360,8 @@ fn push(list: &mut Vec<Label>, label: &Label) -> Result<(), AllocError>
 {
     let interface: Option<u32> = label.interface;
     let segment: Option<Name> = label.segment;
+    let early: Option<Nano> = label.early;
+    let late: Option<Nano> = label.late;
     list.push(Label {
         name: label.name,
         host: label.host,
@@ -333,6 +369,8 @@ fn push(list: &mut Vec<Label>, label: &Label) -> Result<(), AllocError>
         kind: label.kind,
         interface,
         segment,
+        early,
+        late,
         first_subnet: label.first_subnet,
         subnet_count: label.subnet_count,
     })?;

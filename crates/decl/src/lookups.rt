@@ -1,16 +1,17 @@
 // What a declaration says of an address, of two hosts, of a label by its name, and of neighbouring clocks.
 ghost use Rattle.std.specs.Prelude.{◌≡◌, ◌≤◌, length, position};
+ghost use Rattle.std.specs.List.{list_any};
 ghost use Rattle.std.specs.Cmp.Lexicographic.{slice_cmp};
 ghost use Rattle.std.specs.Ordering.{nat_cmp};
 ghost use Rattle.std.specs.Str.{bytes_eq};
 ghost use Rattle.problem_model.specs.Limits.{most_clocks};
-ghost use Rattle.decl.specs.Declaration.{HasLawfulLabels, declaration_of, host_at, is_own, is_same_segment, link_bounds, follow_from, segment_of, subnets_of, whereabouts};
+ghost use Rattle.decl.specs.Declaration.{HasLawfulLabels, declaration_of, host_at, is_own, is_same_segment, link_bounds, follow_from, gives_bound, has_own_bounds, bounds_with, bounds_at, own_bounds, segment_of, subnets_of, whereabouts};
 ghost use Rattle.decl.specs.Limits.{most_entries};
 
 use crate::subnets::{give_near, narrowest, place_by};
 use crate::{Decl, IpVersion, Label, Subnet, Whereabouts};
 use atto::Nano;
-use problem_model::{Follow, Name};
+use problem_model::{Clock, Follow, Name, StampBounds};
 use std::cmp::Ordering;
 
 // How a label's name stands to a name, in byte order.
@@ -43,6 +44,30 @@ fn first_of_segment(labels: &[Label], label: &Label) -> Option<usize>
     ensures { result ≡ position (λ other. is_same_segment other.segment label.now.segment) labels.now }
 {
     labels.iter().position(|other| is_beside(other, label))
+}
+
+// Whether a label gives a bound of its trace's own stamps.
+fn gives_bound(label: &Label) -> bool
+    ensures { result ≡ gives_bound label.now }
+{
+    label.early.is_some() || label.late.is_some()
+}
+
+// Whether one of these labels does.
+fn give_bounds(labels: &[Label]) -> bool
+    ensures { result ≡ list_any gives_bound labels.now }
+{
+    labels.iter().any(|label| gives_bound(label))
+}
+
+// The bounds of a trace's stamps.
+fn bounds_with(label: &Label, clock: &Clock) -> StampBounds
+    ensures { result ≡ bounds_with label.now clock.now }
+{
+    StampBounds {
+        early: label.early.unwrap_or(clock.early),
+        late: label.late.unwrap_or(clock.late),
+    }
 }
 
 impl Decl {
@@ -89,6 +114,37 @@ impl Decl {
         match first_of_segment(&self.labels, label) {
             Some(place) => place as u32,
             None => 0,
+        }
+    }
+
+    /// Whether some label gives a bound of its trace's own stamps: then each event has bounds of its own. It takes a step for
+    /// each label.
+    pub fn has_own_bounds(&self) -> bool
+        ensures { result ≡ has_own_bounds (declaration_of self.now) }
+    {
+        give_bounds(&self.labels)
+    }
+
+    /// The bounds of the stamps of a label's trace: those that the label gives, and for one that it does not give that of its
+    /// clock. None where it has no clock.
+    pub fn bounds_at(&self, label: &Label) -> Option<StampBounds>
+        ensures { result ≡ bounds_at (declaration_of self.now) label.now }
+    {
+        match self.clocks.get(label.clock as usize) {
+            Some(clock) => Some(bounds_with(label, clock)),
+            None => None,
+        }
+    }
+
+    /// The bounds that events of a label's trace have of their own; None where no label gives any, so that those of their
+    /// clocks count. It takes a step for each label.
+    pub fn own_bounds(&self, label: &Label) -> Option<StampBounds>
+        ensures { result ≡ own_bounds (declaration_of self.now) label.now }
+    {
+        if self.has_own_bounds() {
+            self.bounds_at(label)
+        } else {
+            None
         }
     }
 

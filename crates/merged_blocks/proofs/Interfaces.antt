@@ -1,5 +1,5 @@
 -- Interfaces of taps can be described.
-use Rattle.std.proofs.Common.{◌≡◌, ◌<◌, ◌≤◌, ◌+◌, ◌^◌, ◌∷◌, [], ℕ, zero, suc, List, length, slice_get, Option, Some, None, codes, All, refl, sym, ap, ◌∙◌, arith, length-append}
+use Rattle.std.proofs.Common.{◌≡◌, ◌<◌, ◌≤◌, ◌+◌, ◌^◌, ◌∷◌, [], ℕ, zero, suc, List, length, slice_get, Option, Some, None, option_map, unwrap_or, IfSome, codes, All, refl, sym, ap, ◌∙◌, arith, length-append}
 use Rattle.std.specs.Prelude.{slice_index_or}
 use Rattle.std.proofs.lemmas.List.Elements.{All-head, All-tail}
 use Rattle.std.proofs.lemmas.Option.{get_or_from_slice_get, slice_get_within}
@@ -11,11 +11,11 @@ use Rattle.problem_model.specs.Name.{IsClockName}
 use Rattle.problem_model.specs.Problem.{ClockFits}
 use Rattle.problem_model.specs.declared.items.Clock.{Clock}
 use Rattle.decl.specs.declared.items.Label.{Label}
-use Rattle.decl.specs.Declaration.{Declaration, IsClockOf, IsDeclaration}
+use Rattle.decl.specs.Declaration.{Declaration, IsClockOf, IsDeclaration, LabelFits}
 use Rattle.pcapng_blocks.specs.Bytes.{interface_bytes}
 use Rattle.pcapng_blocks.specs.File.{IsInterface}
 use Rattle.merged_blocks.specs.declared.taps.Tap.{Tap}
-use Rattle.merged_blocks.specs.Descriptions.{clock_words, description_by, interface_by, tap_interface}
+use Rattle.merged_blocks.specs.Descriptions.{clock_as, clock_words, description_by, interface_by, tap_interface}
 
 -- ---- lengths
 pub number_short : (n : ℕ) → n < 2 ^ 62 → length (decimal_of n) ≤ 19
@@ -45,20 +45,28 @@ all_at P [] k x all at = absurd cc
 all_at P (y ∷ xs) zero x all at = let same : y ≡ x = cc in rw (← same) (All-head P y xs all)
 all_at P (y ∷ xs) (suc k) x all at = all_at P xs k x (All-tail P y xs all) at
 
+-- ---- bounds
+own_or_clock : (o : Option ℕ) (n : ℕ) → IfSome o (λ m. m < 2 ^ 62) → n < 2 ^ 62 → unwrap_or o n < 2 ^ 62
+own_or_clock None n own low = low
+own_or_clock (Some m) n own low = own
+
+as_fits : (l : Label) (c : Clock) → LabelFits l → ClockFits c → ClockFits (clock_as l c)
+as_fits l c own fits = (fits.0, fits.1, own_or_clock l.early c.early own.0 fits.2, own_or_clock l.late c.late own.1 fits.3)
+
 -- ---- interfaces
 module _ (d : Declaration) (declared : IsDeclaration d) where
-  description_short : (l : Label) (c : Option Clock) → slice_get d.clocks l.clock ≡ c → length (description_by (slice_index_or d.hosts l.host []) c) < 65536
-  description_short l None at = omega arith
-  description_short l (Some c) at =
-      words_short (slice_index_or d.hosts l.host []) c (host_short d.hosts l.host declared.hosts.host_names)
-      (all_at (λ (k : Clock). IsClockName k.name) d.clocks l.clock c declared.clocks.clock_names at) (all_at ClockFits d.clocks l.clock c declared.clocks.clocks_fit at)
+  description_short : (l : Label) (c : Option Clock) → LabelFits l → slice_get d.clocks l.clock ≡ c → length (description_by (slice_index_or d.hosts l.host []) (option_map (clock_as l) c)) < 65536
+  description_short l None own at = omega arith
+  description_short l (Some c) own at =
+      words_short (slice_index_or d.hosts l.host []) (clock_as l c) (host_short d.hosts l.host declared.hosts.host_names)
+      (all_at (λ (k : Clock). IsClockName k.name) d.clocks l.clock c declared.clocks.clock_names at) (as_fits l c own (all_at ClockFits d.clocks l.clock c declared.clocks.clocks_fit at))
 
   by_label : (link : ℕ) → link < 65536 → (place : ℕ) (l : Option Label) → slice_get d.labels place ≡ l → IsInterface (interface_by d link l)
   by_label link small place None at = record { link = small; name = omega arith; description = omega arith }
   by_label link small place (Some l) at = record {
     link = small;
     name = let few = (all_at (λ (x : Label). IsClockName x.name) d.labels place l declared.labels.label_names at).short in omega (arith, few);
-    description = description_short l (slice_get d.clocks l.clock) refl;
+    description = description_short l (slice_get d.clocks l.clock) (all_at LabelFits d.labels place l declared.labels.labels_fit at) refl;
   }
 
   pub is_interface : (tap : Tap) → tap.link < 65536 → IsInterface (tap_interface d tap)
@@ -72,12 +80,12 @@ pub link_is : (d : Declaration) (tap : Tap) → (tap_interface d tap).link ≡ t
 link_is d tap = link_by d tap.link (slice_get d.labels tap.place)
 
 -- ---- what is said of a label
-pub described : (d : Declaration) (l : Label) (host : List ℕ) (c : Clock) → slice_get d.hosts l.host ≡ Some host → slice_get d.clocks l.clock ≡ Some c → clock_words host c ≡ description_by (slice_index_or d.hosts l.host []) (slice_get d.clocks l.clock)
+pub described : (d : Declaration) (l : Label) (host : List ℕ) (c : Clock) → slice_get d.hosts l.host ≡ Some host → slice_get d.clocks l.clock ≡ Some c → clock_words host (clock_as l c) ≡ description_by (slice_index_or d.hosts l.host []) (option_map (clock_as l) (slice_get d.clocks l.clock))
 described d l host c at_host at_clock =
-    ap (λ (h : List ℕ). clock_words h c) (sym (get_or_from_slice_get d.hosts l.host host [] at_host)) ∙ ap (description_by (slice_index_or d.hosts l.host [])) (sym at_clock)
+    ap (λ (h : List ℕ). clock_words h (clock_as l c)) (sym (get_or_from_slice_get d.hosts l.host host [] at_host)) ∙ ap (λ (o : Option Clock). description_by (slice_index_or d.hosts l.host []) (option_map (clock_as l) o)) (sym at_clock)
 
 -- an interface by its parts
-pub interface_as : (d : Declaration) (link : ℕ) (l : Label) (name description : List ℕ) → name ≡ l.name → description ≡ description_by (slice_index_or d.hosts l.host []) (slice_get d.clocks l.clock) →
+pub interface_as : (d : Declaration) (link : ℕ) (l : Label) (name description : List ℕ) → name ≡ l.name → description ≡ description_by (slice_index_or d.hosts l.host []) (option_map (clock_as l) (slice_get d.clocks l.clock)) →
     interface_bytes (record { link = link; name = name; description = description }) ≡ interface_bytes (interface_by d link (Some l))
 interface_as d link l name description named said =
     ap (λ (n : List ℕ). interface_bytes (record { link = link; name = n; description = description })) named ∙ ap (λ (t : List ℕ). interface_bytes (record { link = link; name = l.name; description = t })) said

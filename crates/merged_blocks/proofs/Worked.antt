@@ -7,7 +7,7 @@ use Rattle.decl.specs.Declaration.{Declaration}
 use Rattle.mergecap.specs.MergedCapture.{Timed}
 use Rattle.merged_blocks.specs.declared.taps.Tap.{Tap}
 use Rattle.merged_blocks.specs.Taps.{AreTapsOf, StandsBefore, number_of, tap_of}
-use Rattle.merged_blocks.specs.Descriptions.{clock_words}
+use Rattle.merged_blocks.specs.Descriptions.{clock_as, clock_words}
 use Rattle.merged_blocks.specs.MergedFile.{HasStamp, dated_packet}
 
 -- at 10 ns less 1 unit a packet of 2 of 60 bytes under the label at place 1, and one at 0 under that at place 0
@@ -18,7 +18,7 @@ abbrev early : Timed
 early = record { key = record { value = pos 0; place = 0; n = 1 }; packet = let p : Seen = record { stamp = 7; link = 1; interface = Some 0; original_length = 0; bytes = [] } in p }
 
 abbrev label_named : List ℕ → Label
-label_named name = record { name = name; host = 0; clock = 0; kind = Capture; interface = None; segment = None; first_subnet = 0; subnet_count = 0 }
+label_named name = record { name = name; host = 0; clock = 0; kind = Capture; interface = None; segment = None; early = None; late = Some 3; first_subnet = 0; subnet_count = 0 }
 
 abbrev worked_declaration : Declaration
 worked_declaration = record { hosts = []; clocks = []; owners = []; addresses = []; addresses6 = []; labels = label_named (codes "a") ∷ label_named (codes "b") ∷ []; subnets = []; links = []; payload_bytes = 0; tcp_options = false; fragments = false; window = None; source = None }
@@ -60,3 +60,7 @@ worked-early has = let low = has.low in absurd (omega (arith, low))
 
 worked-words : clock_words (codes "h") (record { name = codes "c"; rate = record { short = 5; long = 0 }; early = 0; late = 12 }) ≡ codes "h clock c short 5 ppb long 0 ppb early 0 ns late 12 ns"
 worked-words = refl
+
+-- a label's own bound counts in place of its clock's, and where it has none the clock's counts
+worked-own : clock_as (label_named (codes "a")) (record { name = codes "c"; rate = record { short = 5; long = 0 }; early = 4; late = 12 }) ≡ record { name = codes "c"; rate = record { short = 5; long = 0 }; early = 4; late = 3 }
+worked-own = refl

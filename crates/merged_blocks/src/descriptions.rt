@@ -3,8 +3,9 @@ ghost use Rattle.std.specs.Prelude.{◌≡◌, ◌≤◌, ◌+◌, ◌∷◌, []
 ghost use Rattle.atto.specs.Decimal.{decimal_of};
 ghost use Rattle.line_format.specs.Words.{words};
 ghost use Rattle.ports.specs.Room.{HasRoomBehind};
-ghost use Rattle.merged_blocks.specs.Descriptions.{clock_words};
+ghost use Rattle.merged_blocks.specs.Descriptions.{clock_as, clock_words};
 
+use decl::Label;
 use ports::fixed_line::{Line, first_word, push_decimal, push_word};
 use problem_model::{Clock, Name};
 
@@ -29,6 +30,18 @@ fn push_bound(line: &mut Line, word: &[u8], number: u64, unit: &[u8])
     push_short(line, word);
     push_decimal(line, number);
     push_short(line, unit);
+}
+
+/// A clock with the bounds of the stamps of a label's trace.
+pub(crate) fn clock_as(label: &Label, clock: &Clock) -> Clock
+    ensures { result ≡ clock_as label.now clock.now }
+{
+    Clock {
+        name: clock.name,
+        rate: clock.rate,
+        early: label.early.unwrap_or(clock.early),
+        late: label.late.unwrap_or(clock.late),
+    }
 }
 
 /// What there is to say of a host's clock: by how much its rate and its stamps may be off.

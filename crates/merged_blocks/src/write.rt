@@ -16,7 +16,7 @@ ghost use Rattle.merged_blocks.specs.Ready.{AreReady};
 
 use crate::DatedPackets;
 use crate::dates::stamp_of;
-use crate::descriptions::clock_line;
+use crate::descriptions::{clock_as, clock_line};
 use crate::laws::files_are_read_back;
 use crate::remarks::remark_line;
 use crate::taps::{Tap, number_of, tap_of};
@@ -65,8 +65,8 @@ fn write_label<O: Sink>(decl: &Decl, label: &Label, link: u16, out: &mut O) -> R
     ensures { Writes (interface_bytes (interface_by (declaration_of decl.now) link (Some label.now))) (O.told out.old) (O.told out.new) result }
 {
     let host = host_at(&decl.hosts, label.host);
-    let clock = clock_at(&decl.clocks, label.clock);
-    let description = clock_line(host, clock);
+    let clock = clock_as(label, clock_at(&decl.clocks, label.clock));
+    let description = clock_line(host, &clock);
     let interface = InterfaceText {
         link,
         name: label.name.bytes(),
@@ -161,19 +161,19 @@ fn write_packets<O: Sink>(
     Ok(())
 }
 
-/// Writes these packets, in their order, as a file of pcapng, little-endian, version 1.0: one section, an interface for each
-/// tap, and behind them a block for each packet.
+/// Writes these packets, in their order, as a file of pcapng, little-endian, version 1.0: one section, an interface for
+/// each tap, and behind them a block for each packet.
 ///
 /// An interface has the link type of its tap, the name of its label (if_name), and says of it (if_description) its host,
-/// its clock, and by how much that clock's rate may be off, in parts per billion, and its stamps, in ns; its stamps count
-/// ns (if_tsresol 9), and it has no limit on how much of a packet is captured. A packet's stamp is its date, rounded down
-/// to whole ns; it has both its lengths, and a comment (opt_comment): `tracesync`, its event, `stamp`, and its stamp in ns of
-/// its own clock.
+/// its clock, and by how much that clock's rate may be off, in parts per billion, and the stamps of its trace, in ns: by
+/// the label's own bounds, and by those of the clock where it gives none. Its stamps count ns (if_tsresol 9), and it has
+/// no limit on how much of a packet is captured. A packet's stamp is its date, rounded down to whole ns; it has both its
+/// lengths, and a comment (opt_comment): `tracesync`, its event, `stamp`, and its stamp in ns of its own clock.
 ///
 /// The declaration is that of the labels, each packet has at most 262,144 bytes and a date, and the time of the first
-/// event is not below 0. It takes no memory. Where all dates are below 2^62 ns, the whole of it is read as these packets with these
-/// stamps, in their order, and nothing is left. `Failed` comes only where the sink's count of faults rose, or stands at
-/// its last value; a front of the file is then written.
+/// event is not below 0. It takes no memory. Where all dates are below 2^62 ns, the whole of it is read as these packets
+/// with these stamps, in their order, and nothing is left. `Failed` comes only where the sink's count of faults rose, or
+/// stands at its last value; a front of the file is then written.
 pub fn write_merged<O: Sink>(decl: &Decl, dated: &DatedPackets, out: &mut O) -> Result<(), Failed>
     requires declared { IsDeclaration (declaration_of decl.now) }
     requires ready { AreReady (declaration_of decl.now) dated.now }

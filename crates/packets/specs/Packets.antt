@@ -3,7 +3,8 @@ use Rattle.std.specs.Prelude.{◌≡◌, ℕ, ◌-◌, ◌<◌, ◌↔◌, List,
 use Rattle.packets.specs.declared.first_packets.FirstPackets.{FirstPackets}
 use Rattle.packets.specs.declared.packet.Packet.{Packet}
 
--- a packet: its stamp in ns, its link type, the number of its interface if its capture numbers them, how many bytes it is said to have had on its link, and those that were captured
+-- a packet: its stamp in ns, its link type, the number of its interface if its capture numbers them, how many bytes it
+-- is said to have had on its link, and those that were captured
 pub record Seen : Type 0 where
   pub stamp : ℕ
   pub link : ℕ

@@ -8,7 +8,7 @@ use Rattle.std.proofs.lemmas.List.FromFn.{get_or-range_with_len, length-range_wi
 use Rattle.problem_model.specs.declared.items.Clock.{Clock}
 use Rattle.problem_model.specs.declared.items.Follow.{Follow}
 use Rattle.problem_model.specs.Problem.{LeadsOn}
-use Rattle.problem_model.specs.ProblemText.{follow_line, followed_head, head_words}
+use Rattle.problem_model.specs.ProblemText.{follow_line, followed_head, plain_head}
 use Rattle.problem_model.specs.Limits.{most_clocks}
 use Rattle.atto.specs.Decimal.{decimal_of}
 use Rattle.line_format.specs.Words.{line_of}
@@ -17,7 +17,7 @@ use Rattle.decl.proofs.Following.{follow_listed, follows_lead}
 use Rattle.traces.proofs.Members.{none_in}
 use Rattle.traces.proofs.Follows.{before_more, follows_before}
 use Rattle.roster.specs.Roster.{RosterLists, IsRoster, listed}
-use Rattle.problem_text.specs.RosterText.{next_line}
+use Rattle.problem_text.specs.RosterText.{next_line, roster_head}
 use Rattle.problem_text.proofs.Lists.{given_twice}
 
 -- ---- the follow from one place
@@ -52,12 +52,12 @@ pub by_place : (d : Declaration) → flat_map (follow_line d.clocks) (follows_of
 by_place d = given_twice (follow_line d.clocks) (λ k. option_to_list (follow_from d k)) (range_with_len 0 (length d.owners))
 
 -- ---- the head
-followed : (fs : List Follow) (f : Follow) → Contains fs f → head_words fs ≡ followed_head
+followed : (fs : List Follow) (f : Follow) → Contains fs f → plain_head fs ≡ followed_head
 followed [] f held = absurd (none_in f held)
 followed (g ∷ fs) f held = refl
 
 -- a follow from one place makes the text one of version 2
-pub version_two : (d : Declaration) (k : ℕ) (o : Option Follow) → o ≡ follow_from d k → is_some o ≡ true → head_words (follows_of d) ≡ followed_head
+pub version_two : (d : Declaration) (k : ℕ) (o : Option Follow) → o ≡ follow_from d k → is_some o ≡ true → plain_head (follows_of d) ≡ followed_head
 version_two d k None is some = absurd (cc)
 version_two d k (Some f) is some = followed (follows_of d) f (follow_listed d k f (sym is))
 
@@ -67,5 +67,5 @@ none_more d k None is some none = before_more d k ∙ ap (λ (fs : List Follow).
 none_more d k (Some f) is some none = absurd (cc)
 
 -- the line of the head, by the version
-pub head_is : (d e : Declaration) (version : ℕ) → d ≡ e → head_words (follows_of d) ≡ codes "problem" ∷ decimal_of version ∷ [] → line_of (codes "problem" ∷ decimal_of version ∷ []) ≡ line_of (head_words (follows_of e))
-head_is d e version same is = ap line_of (sym is) ∙ ap (λ (d : Declaration). line_of (head_words (follows_of d))) same
+pub head_line : (r : RosterLists) (version : ℕ) → roster_head r ≡ codes "problem" ∷ decimal_of version ∷ [] → line_of (codes "problem" ∷ decimal_of version ∷ []) ≡ line_of (roster_head r)
+head_line r version is = ap line_of (sym is)

@@ -1,14 +1,17 @@
 -- The lines of what a roster holds.
 use Rattle.std.proofs.Common.{◌≡◌, ℕ, List, [], ◌∷◌, map, slice_get, Option, Some, codes, sym, ◌∙◌, ap}
+use Rattle.std.specs.Prelude.{option_and_then}
 use Rattle.std.proofs.lemmas.Option.{same_Some}
 use Rattle.atto.specs.Decimal.{decimal_of}
 use Rattle.line_format.specs.Words.{line_of}
 use Rattle.problem_model.specs.declared.items.Clock.{Clock}
-use Rattle.problem_model.specs.ProblemText.{clock_name, most_word}
+use Rattle.problem_model.specs.declared.items.StampBounds.{StampBounds}
+use Rattle.problem_model.specs.ProblemText.{bound_words, clock_name, most_word}
 use Rattle.problem.proofs.ListedNodes.{map_at}
 use Rattle.problem.proofs.Naming.{name_found, clock_name_is}
 use Rattle.decl.specs.declared.items.Label.{Label}
-use Rattle.decl.specs.Declaration.{link_bounds}
+use Rattle.decl.specs.Declaration.{link_bounds, own_bounds}
+use Rattle.traces.specs.Messages.{bounds_of}
 use Rattle.traces.specs.Traces.{clock_by, clock_of, host_of, name_of}
 use Rattle.roster.specs.declared.came.Came.{Came}
 use Rattle.roster.specs.Roster.{RosterLists, id_of, event_at, IsRoster, listed}
@@ -23,16 +26,18 @@ module _ (r : RosterLists) (is : IsRoster r) where
   came_is : (v : ℕ) (e : Came) → slice_get r.came v ≡ Some e → event_at r.came v ≡ e
   came_is = event_is r is
 
-  pub came_text : (v : ℕ) (e : Came) (l : Label) (name clock : List ℕ) → slice_get r.came v ≡ Some e → slice_get r.declaration.labels e.label ≡ Some l → slice_get (listed r).event_names v ≡ Some name → slice_get (listed r).clock_names l.clock ≡ Some clock →
-      line_of (codes "event" ∷ name ∷ clock ∷ decimal_of e.stamp ∷ []) ≡ came_line r v
-  came_text v e l name clock at own named on =
+  pub came_text : (v : ℕ) (e : Came) (l : Label) (name clock : List ℕ) (bounds : Option StampBounds) → slice_get r.came v ≡ Some e → slice_get r.declaration.labels e.label ≡ Some l → bounds ≡ own_bounds r.declaration l → slice_get (listed r).event_names v ≡ Some name → slice_get (listed r).clock_names l.clock ≡ Some clock →
+      line_of (codes "event" ∷ name ∷ clock ∷ decimal_of e.stamp ∷ bound_words bounds) ≡ came_line r v
+  came_text v e l name clock bounds at own given named on =
       let d = r.declaration in
       let clocks = d.clocks in
       let its_clock : clock ≡ clock_name clocks l.clock = name_found (map (λ (c : Clock). c.name) clocks) l.clock clock on ∙ clock_name_is clocks l.clock in
       let place : l.clock ≡ clock_of d (id_of e) = ap clock_by (sym own) in
-      ap (λ (n : List ℕ). line_of (codes "event" ∷ n ∷ clock ∷ decimal_of e.stamp ∷ [])) (listed_name r v e name at named)
-      ∙ ap (λ (n : List ℕ). line_of (codes "event" ∷ name_of d (id_of e) ∷ n ∷ decimal_of e.stamp ∷ [])) (its_clock ∙ ap (clock_name clocks) place)
-      ∙ ap (λ (x : Came). line_of (codes "event" ∷ name_of d (id_of x) ∷ clock_name clocks (clock_of d (id_of x)) ∷ decimal_of x.stamp ∷ [])) (sym (came_is v e at))
+      let its_bounds : bounds ≡ bounds_of d (id_of e) = given ∙ ap (option_and_then (own_bounds d)) (sym own) in
+      ap (λ (n : List ℕ). line_of (codes "event" ∷ n ∷ clock ∷ decimal_of e.stamp ∷ bound_words bounds)) (listed_name r v e name at named)
+      ∙ ap (λ (n : List ℕ). line_of (codes "event" ∷ name_of d (id_of e) ∷ n ∷ decimal_of e.stamp ∷ bound_words bounds)) (its_clock ∙ ap (clock_name clocks) place)
+      ∙ ap (λ (b : Option StampBounds). line_of (codes "event" ∷ name_of d (id_of e) ∷ clock_name clocks (clock_of d (id_of e)) ∷ decimal_of e.stamp ∷ bound_words b)) its_bounds
+      ∙ ap (λ (x : Came). line_of (codes "event" ∷ name_of d (id_of x) ∷ clock_name clocks (clock_of d (id_of x)) ∷ decimal_of x.stamp ∷ bound_words (bounds_of d (id_of x)))) (sym (came_is v e at))
 
   pub couple_text : (v w : ℕ) (e f : Came) (send receive : List ℕ) (bounds : ℕ × Option ℕ) → slice_get r.came v ≡ Some e → slice_get r.came w ≡ Some f → slice_get (listed r).event_names v ≡ Some send → slice_get (listed r).event_names w ≡ Some receive →
       bounds ≡ link_bounds r.declaration (host_of r.declaration (id_of e)) (host_of r.declaration (id_of f)) →

@@ -1,5 +1,5 @@
 -- The text that a roster gives is that of the problem of what it holds.
-use Rattle.std.proofs.Common.{◌≡◌, ◌≢◌, ◌<◌, ℕ, List, [], ◌∷◌, ◌++◌, length, map, slice_get, Option, Some, None, Contains, AllPairs, codes, inl, inr, refl, sym, ◌∙◌, ap, subst}
+use Rattle.std.proofs.Common.{◌≡◌, ◌≢◌, ◌<◌, ℕ, suc, List, [], ◌∷◌, ◌++◌, length, map, slice_get, Option, Some, None, Contains, AllPairs, Bool, true, false, not, ◌&&◌, ◌==◌, is_some, if◌then◌else◌, codes, inl, inr, refl, sym, ◌∙◌, ap, subst, arith}
 use Rattle.std.specs.List.{flat_map}
 use Rattle.std.proofs.lemmas.List.{append-nil, append_assoc}
 use Rattle.std.proofs.lemmas.Option.{slice_get_within}
@@ -7,9 +7,9 @@ use Rattle.atto.specs.Decimal.{decimal_of}
 use Rattle.line_format.specs.Words.{line_of}
 use Rattle.problem_model.specs.declared.items.Event.{Event}
 use Rattle.problem_model.specs.declared.items.Message.{Message}
-use Rattle.problem_model.specs.ProblemText.{clock_line, event_line, event_name, follow_line, head_words, message_line, most_word, problem_text}
+use Rattle.problem_model.specs.ProblemText.{clock_line, event_line, event_name, follow_line, have_bounds, head_words, message_line, most_word, own_head, plain_head, problem_text}
 use Rattle.problem.proofs.ListedNodes.{map_at}
-use Rattle.decl.specs.Declaration.{Declaration, follows_of, link_bounds}
+use Rattle.decl.specs.Declaration.{Declaration, follows_of, has_own_bounds, link_bounds}
 use Rattle.traces.specs.declared.event.Side.{Side}
 use Rattle.traces.specs.declared.event.Side.TheVariants.{Send, Receive}
 use Rattle.traces.specs.Seen.{EventKey, SeenMark, Keyed, Unkeyed, Seen}
@@ -17,24 +17,26 @@ use Rattle.traces.specs.declared.event_id.EventId.{EventId}
 use Rattle.traces.specs.declared.event_id.Couple.{Couple}
 use Rattle.traces.specs.Traces.{Placed, events_of, host_of, name_of}
 use Rattle.traces.specs.Windows.{by_group, grouped, keys_among}
-use Rattle.traces.specs.Messages.{couples_of, event_with, linked, messages_of, only_two, place_of, problem_of_seen, sent_by, with_mark}
+use Rattle.traces.specs.Messages.{bounds_of, couples_of, event_with, linked, messages_of, only_two, place_of, problem_of_seen, sent_by, with_mark}
 use Rattle.traces.proofs.CoupleEnds.{couple_pair}
 use Rattle.traces.proofs.Grouped.{group_in, grouped_differ}
 use Rattle.traces.proofs.Ids.{ids_differ}
 use Rattle.traces.proofs.Marks.{event_one, only_from, only_to}
-use Rattle.traces.proofs.Members.{given_by, head_or_tail, none_in}
+use Rattle.traces.proofs.Members.{given_by, head_or_tail, here, none_in, there}
 use Rattle.traces.proofs.MessageEnds.{ends_known}
 use Rattle.traces.proofs.Lists.{got}
 use Rattle.traces.proofs.Places.{stands}
+use Rattle.traces.proofs.Whole.{bounds_given}
 use Rattle.roster.specs.declared.came.Came.{Came}
 use Rattle.roster.specs.declared.came.Partner.{Partner}
-use Rattle.roster.specs.Roster.{RosterLists, event_at, IsRoster, HoldsEvents, listed}
+use Rattle.roster.specs.Roster.{RosterLists, event_at, id_of, IsRoster, HoldsEvents, listed}
 use Rattle.roster.proofs.Telling.{among}
 use Rattle.roster.proofs.Turns.{from_map, into_map}
 use Rattle.roster.specs.Rosters.{named_event}
 use Rattle.roster.specs.Told.{TellsMessages, messages_by_number, number_of, numbered_message}
 use Rattle.roster.proofs.Rosters.{events_are}
-use Rattle.problem_text.specs.RosterText.{HasPartners, came_lines, couple_line, partner_line, roster_text, sent_line, sent_lines}
+use Rattle.roster.proofs.ListedPlaces.{label_inside}
+use Rattle.problem_text.specs.RosterText.{HasPartners, came_lines, couple_line, partner_line, roster_head, roster_text, sent_line, sent_lines}
 use Rattle.problem_text.proofs.Lists.{given_alike, given_map, given_same, given_twice, none_of}
 use Rattle.problem_text.proofs.Ids.{event_is, held_came, held_id, id_by, as_many, listed_at, own_number, same_id}
 
@@ -92,6 +94,17 @@ module _ (d : Declaration) (events : List Placed) (differ : AllPairs (λ (a b : 
       let bounds = link_bounds d (host_of d m.send) (host_of d m.receive) in
       ap (λ (n : List ℕ). line_of (codes "message" ∷ n ∷ event_name (map (event_with d) events) (place_of events m.receive) ∷ decimal_of bounds.0 ∷ most_word bounds.1 ∷ [])) (place_named s m.send in_s is_s)
       ∙ ap (λ (n : List ℕ). line_of (codes "message" ∷ name_of d m.send ∷ n ∷ decimal_of bounds.0 ∷ most_word bounds.1 ∷ [])) (place_named w m.receive in_w is_w)
+
+-- ---- the head
+some_there : (n : ℕ) → true ≡ not (suc n == 0)
+some_there n = grind arith
+
+-- where each of these events has bounds of its own, or none has, some event has exactly where the one is so and one is there
+given_alike_bounds : (d : Declaration) (b : Bool) (events : List Placed) → ((e : Placed) → Contains events e → is_some (bounds_of d e.id) ≡ b) → have_bounds (map (event_with d) events) ≡ (b && not (length events == 0))
+given_alike_bounds d true [] all = refl
+given_alike_bounds d false [] all = refl
+given_alike_bounds d true (e ∷ events) all = rw (all e (here e events)) (some_there (length events))
+given_alike_bounds d false (e ∷ events) all = rw (all e (here e events)) (given_alike_bounds d false events (λ x held. all x (there e x events held)))
 
 -- ---- the whole
 module _ (r : RosterLists) (is : IsRoster r) (seen : List (List Seen)) (holds : HoldsEvents r seen) (tells : TellsMessages r (messages_by_number r seen)) where
@@ -176,12 +189,29 @@ module _ (r : RosterLists) (is : IsRoster r) (seen : List (List Seen)) (holds : 
       sym (given_map {X = ℕ × ℕ} {Y = Event} {Z = ℕ} (event_line r.declaration.clocks) (λ e. named_event r.declaration (event_at r.came e.0)) (listed r).events)
       ∙ ap (flat_map (event_line r.declaration.clocks)) (events_are r is seen holds)
 
+  label_held : (e : Placed) → Contains (events_of seen) e → e.id.label < length r.declaration.labels
+  label_held e held =
+      let v : ℕ = number_of r.under e.id in
+      let (x, at) = got r.came v (held_came r is seen holds e held) in
+      let same : id_of x ≡ e.id = ap id_of (sym (event_is r is v x at)) ∙ held_id r is seen holds e held in
+      subst (λ (n : ℕ). n < length r.declaration.labels) (ap (λ (i : EventId). i.label) same) (label_inside r is v x at)
+
+  -- the head
+  head_text : roster_head r ≡ head_words (follows_of r.declaration) (map (event_with r.declaration) (events_of seen))
+  head_text =
+      let d : Declaration = r.declaration in
+      let given : have_bounds (map (event_with d) (events_of seen)) ≡ (has_own_bounds d && not (length (events_of seen) == 0)) =
+      given_alike_bounds d (has_own_bounds d) (events_of seen) (λ e held. bounds_given d e.id is.declared.clocks is.declared.labels (label_held e held)) in
+      ap (λ (b : Bool). if b then own_head else plain_head (follows_of d)) (ap (λ (n : ℕ). has_own_bounds d && not (n == 0)) (as_many r is seen holds) ∙ sym given)
+
   pub text_is : roster_text r ≡ problem_text (problem_of_seen r.declaration seen)
   text_is =
       let d : Declaration = r.declaration in
-      let front : List ℕ = line_of (head_words (follows_of d)) ++ flat_map clock_line d.clocks in
+      let clocks : List ℕ = flat_map clock_line d.clocks in
+      let front : List ℕ = line_of (head_words (follows_of d) (map (event_with d) (events_of seen))) ++ clocks in
       let follows : List ℕ = flat_map (follow_line d.clocks) (follows_of d) in
       let events : List ℕ = flat_map (event_line d.clocks) (problem_of_seen d seen).events in
-      ap (λ (l : List ℕ). front ++ follows ++ l ++ sent_lines r ++ line_of (codes "end" ∷ [])) events_text
+      ap (λ (l : List (List ℕ)). line_of l ++ clocks ++ follows ++ came_lines r ++ sent_lines r ++ line_of (codes "end" ∷ [])) head_text
+      ∙ ap (λ (l : List ℕ). front ++ follows ++ l ++ sent_lines r ++ line_of (codes "end" ∷ [])) events_text
       ∙ ap (λ (l : List ℕ). front ++ follows ++ events ++ l ++ line_of (codes "end" ∷ [])) messages_text
       ∙ ap (λ (l : List ℕ). l ++ flat_map (message_line (problem_of_seen d seen).events) (problem_of_seen d seen).messages ++ line_of (codes "end" ∷ [])) (append_assoc front follows events)

@@ -1,10 +1,10 @@
 -- The text of what a roster holds, by the roster alone.
-use Rattle.std.specs.Prelude.{◌≡◌, ◌<◌, ℕ, List, [], ◌∷◌, ◌++◌, length, slice_get, Option, Some, None, option_to_list, codes}
+use Rattle.std.specs.Prelude.{◌≡◌, ◌<◌, ℕ, List, [], ◌∷◌, ◌++◌, Bool, ◌&&◌, not, ◌==◌, if◌then◌else◌, length, slice_get, Option, Some, None, option_to_list, codes}
 use Rattle.std.specs.List.{flat_map}
 use Rattle.atto.specs.Decimal.{decimal_of}
 use Rattle.line_format.specs.Words.{line_of}
-use Rattle.problem_model.specs.ProblemText.{clock_line, follow_line, event_line, most_word, head_words}
-use Rattle.decl.specs.Declaration.{Declaration, link_bounds, follow_from, follows_of}
+use Rattle.problem_model.specs.ProblemText.{clock_line, follow_line, event_line, most_word, own_head, plain_head}
+use Rattle.decl.specs.Declaration.{Declaration, link_bounds, follow_from, follows_of, has_own_bounds}
 use Rattle.traces.specs.declared.event_id.EventId.{EventId}
 use Rattle.traces.specs.Traces.{name_of, host_of}
 use Rattle.roster.specs.declared.came.Came.{Came}
@@ -47,7 +47,15 @@ came_lines r = flat_map (λ (e : ℕ × ℕ). came_line r e.0) (listed r).events
 abbrev pub sent_lines : RosterLists → List ℕ
 sent_lines r = flat_map (λ (e : ℕ × ℕ). sent_line r e.0) (listed r).events
 
+-- its events have bounds of their own: some label gives any, and there is an event
+abbrev pub has_bounds : RosterLists → Bool
+has_bounds r = has_own_bounds r.declaration && not (length (listed r).events == 0)
+
+-- the words of the first line
+abbrev pub roster_head : RosterLists → List (List ℕ)
+roster_head r = if has_bounds r then own_head else plain_head (follows_of r.declaration)
+
 -- the whole text: the head of its version, clocks, follows, events by label and number, the messages that they send,
 -- the end
 abbrev pub roster_text : RosterLists → List ℕ
-roster_text r = line_of (head_words (follows_of r.declaration)) ++ flat_map clock_line r.declaration.clocks ++ flat_map (follow_line r.declaration.clocks) (follows_of r.declaration) ++ came_lines r ++ sent_lines r ++ line_of (codes "end" ∷ [])
+roster_text r = line_of (roster_head r) ++ flat_map clock_line r.declaration.clocks ++ flat_map (follow_line r.declaration.clocks) (follows_of r.declaration) ++ came_lines r ++ sent_lines r ++ line_of (codes "end" ∷ [])

@@ -13,16 +13,19 @@ use ports::{Failed, Sink, write_whole};
 use problem_model::{Clock, Name};
 
 /// Writes the first line of the text of a problem, which names its version: `problem 1` where no clock follows another,
-/// or `problem 2` where there are follows. The version is 1 or 2. It takes no memory. After `Failed`, which comes only
-/// where the sink's count of faults rose, some front of the line is written.
+/// `problem 2` where there are follows, or `problem 3` where events have bounds of their own. The version is one of these.
+/// It takes no memory. After `Failed`, which comes only where the sink's count of faults rose, some front of the line is
+/// written.
 pub fn write_head<O: Sink>(version: u32, out: &mut O) -> Result<(), Failed>
-    requires { (version ≡ 1) ⊎ (version ≡ 2) }
+    requires { (version ≡ 1) ⊎ (version ≡ 2) ⊎ (version ≡ 3) }
     ensures { Writes (line_of (codes "problem" ∷ decimal_of version ∷ [])) (O.told out.old) (O.told out.new) result }
 {
     if version == 1 {
         write_whole(out, b"problem 1\n")
-    } else {
+    } else if version == 2 {
         write_whole(out, b"problem 2\n")
+    } else {
+        write_whole(out, b"problem 3\n")
     }
 }
 

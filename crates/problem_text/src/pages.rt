@@ -6,11 +6,11 @@ ghost use Rattle.problem_text.specs.Paged.{Puts};
 use arrayvec::ArrayVec;
 use ports::{Failed, Sink, write_whole};
 
-// How many bytes are held at most.
-pub(crate) const PAGE_ROOM: usize = 4096;
+/// How many bytes a page holds at most.
+pub const PAGE_ROOM: usize = 4096;
 
-// Bytes that are held, to be written later. It takes no memory.
-pub(crate) type Page = ArrayVec<u8, PAGE_ROOM>;
+/// Bytes that are held, to be written later. It takes no memory.
+pub type Page = ArrayVec<u8, PAGE_ROOM>;
 
 // Writes what is held, and then holds the piece, or writes it where it is longer than a page.
 fn turn<O: Sink>(page: &mut Page, piece: &[u8], out: &mut O) -> Result<(), Failed>
@@ -24,10 +24,10 @@ fn turn<O: Sink>(page: &mut Page, piece: &[u8], out: &mut O) -> Result<(), Faile
     write_whole(out, piece)
 }
 
-// Puts a piece behind the bytes of a page. Where it does not fit, these are written first, and a piece that is longer than a
-// page is written as it is. After `Failed`, which comes only where the sink's count of faults rose, some front of all this
-// is written.
-pub(crate) fn put<O: Sink>(page: &mut Page, piece: &[u8], out: &mut O) -> Result<(), Failed>
+/// Puts a piece behind the bytes of a page. Where it does not fit, these are written first, and a piece that is longer than a
+/// page is written as it is. After `Failed`, which comes only where the sink's count of faults rose, some front of all this
+/// is written.
+pub fn put<O: Sink>(page: &mut Page, piece: &[u8], out: &mut O) -> Result<(), Failed>
     ensures { Puts piece.now page.old.items page.new.items (O.told out.old) (O.told out.new) result }
 {
     if page.try_extend_from_slice(piece).is_ok() {

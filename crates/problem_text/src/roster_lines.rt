@@ -2,18 +2,18 @@
 ghost use Rattle.std.specs.Prelude.{◌≡◌, ◌<◌, length};
 ghost use Rattle.ports.specs.Content.{Writes};
 ghost use Rattle.problem_model.specs.ProblemText.{follow_line};
-ghost use Rattle.decl.specs.Declaration.{declaration_of};
+ghost use Rattle.decl.specs.Declaration.{declaration_of, has_own_bounds, own_bounds};
 ghost use Rattle.traces.specs.Traces.{host_of};
 ghost use Rattle.roster.specs.Roster.{id_of, event_at};
 ghost use Rattle.problem_text.specs.RosterText.{HasPartners, came_line, couple_line, next_line, sent_line};
 
 use crate::lines::write_follow;
 use crate::words::{event_line, message_line};
-use decl::Decl;
+use decl::{Decl, Label};
 use ports::fixed_line::Line;
 use ports::{Failed, Sink};
 use problem::Listing;
-use problem_model::Follow;
+use problem_model::{Follow, StampBounds};
 use roster::{Came, Roster};
 
 // Writes the line of a follow.
@@ -37,16 +37,26 @@ pub(crate) fn write_next<O: Sink>(roster: &Roster, place: u32, out: &mut O) -> R
     }
 }
 
-/// The line of the event with this number.
-pub(crate) fn came_line(roster: &Roster, v: u32) -> Line
-    requires { v < length roster.now.came }
+// The bounds that events of a label have of their own, where it is known whether any label gives some.
+fn bounds_if(own: bool, decl: &Decl, label: &Label) -> Option<StampBounds>
+    requires { own ≡ has_own_bounds (declaration_of decl.now) }
+    ensures { result ≡ own_bounds (declaration_of decl.now) label.now }
+{
+    if own { decl.bounds_at(label) } else { None }
+}
+
+/// The line of the event with this number. Events have bounds of their own where some label gives any.
+pub(crate) fn came_line(roster: &Roster, own: bool, v: u32) -> Line
+    requires came { v < length roster.now.came }
+    requires own { own ≡ has_own_bounds roster.now.declaration }
     ensures { result.items ≡ came_line roster.now v }
 {
     let came = roster.event(v);
-    let clock = roster.decl().labels[came.label as usize].clock;
+    let decl = roster.decl();
+    let label = &decl.labels[came.label as usize];
     let name = roster.event_name(v);
-    let clock = roster.clock_name(clock);
-    event_line(&name, &clock, came.stamp)
+    let clock = roster.clock_name(label.clock);
+    event_line(&name, &clock, came.stamp, bounds_if(own, decl, label))
 }
 
 // The host that an event happened at.

@@ -3,14 +3,14 @@ ghost use Rattle.std.specs.Prelude.{◌≡◌, ◌≤◌, ◌⊎◌, ◌∷◌, 
 ghost use Rattle.std.specs.List.{flat_map};
 ghost use Rattle.atto.specs.Decimal.{decimal_of};
 ghost use Rattle.ports.specs.Content.{Writes};
-ghost use Rattle.problem_model.specs.ProblemText.{clock_line, follow_line, head_words, problem_text};
+ghost use Rattle.problem_model.specs.ProblemText.{clock_line, follow_line, plain_head, problem_text};
 ghost use Rattle.problem_model.specs.Limits.{most_clocks};
-ghost use Rattle.decl.specs.Declaration.{declaration_of, follows_of};
+ghost use Rattle.decl.specs.Declaration.{declaration_of, follows_of, has_own_bounds};
 ghost use Rattle.traces.specs.Seen.{Seen};
 ghost use Rattle.traces.specs.Messages.{problem_of_seen};
 ghost use Rattle.roster.specs.Roster.{HoldsEvents};
 ghost use Rattle.roster.specs.Told.{TellsMessages, messages_by_number};
-ghost use Rattle.problem_text.specs.RosterText.{HasPartners, came_lines, roster_text, sent_lines};
+ghost use Rattle.problem_text.specs.RosterText.{HasPartners, came_lines, roster_head, roster_text, sent_lines};
 
 use crate::lines::{write_clock, write_end, write_head};
 use crate::pages::{Page, put};
@@ -20,11 +20,11 @@ use ports::{Failed, Sink, write_whole};
 use problem::Listing;
 use roster::Roster;
 
-// The version of the text: 2 where one clock follows another, and 1 elsewhere.
-fn version_of(decl: &Decl) -> u32
+// The version of a text whose events have no bounds of their own: 2 where one clock follows another, and 1 elsewhere.
+fn plain_version(decl: &Decl) -> u32
     requires { length decl.now.owners.items ≤ most_clocks }
-    ensures known { (result ≡ 1) ⊎ (result ≡ 2) }
-    ensures head { head_words (follows_of (declaration_of decl.now)) ≡ codes "problem" ∷ decimal_of result ∷ [] }
+    ensures known { (result ≡ 1) ⊎ (result ≡ 2) ⊎ (result ≡ 3) }
+    ensures head { plain_head (follows_of (declaration_of decl.now)) ≡ codes "problem" ∷ decimal_of result ∷ [] }
 {
     for place in 0..decl.owners.len() as u32 {
         if decl.follow_from(place).is_some() {
@@ -32,6 +32,18 @@ fn version_of(decl: &Decl) -> u32
         }
     }
     1
+}
+
+// The version of the text: 3 where events have bounds of their own, 2 elsewhere where one clock follows another, and else 1.
+fn version_of(roster: &Roster, own: bool) -> u32
+    requires { own ≡ has_own_bounds roster.now.declaration }
+    ensures known { (result ≡ 1) ⊎ (result ≡ 2) ⊎ (result ≡ 3) }
+    ensures head { roster_head roster.now ≡ codes "problem" ∷ decimal_of result ∷ [] }
+{
+    if own && roster.event_count() != 0 {
+        return 3;
+    }
+    plain_version(roster.decl())
 }
 
 // Writes the lines of the clocks.
@@ -55,13 +67,14 @@ fn write_follows<O: Sink>(roster: &Roster, out: &mut O) -> Result<(), Failed>
 }
 
 // Writes the lines of the events, many in one write.
-fn write_events<O: Sink>(roster: &Roster, out: &mut O) -> Result<(), Failed>
+fn write_events<O: Sink>(roster: &Roster, own: bool, out: &mut O) -> Result<(), Failed>
+    requires { own ≡ has_own_bounds roster.now.declaration }
     ensures { Writes (came_lines roster.now) (O.told out.old) (O.told out.new) result }
 {
     let mut page = Page::new();
     for place in 0..roster.event_count() {
         let (v, _) = roster.event_at(place);
-        put(&mut page, came_line(roster, v).as_slice(), out)?;
+        put(&mut page, came_line(roster, own, v).as_slice(), out)?;
     }
     write_whole(out, page.as_slice())
 }
@@ -85,10 +98,11 @@ fn write_text<O: Sink>(roster: &Roster, out: &mut O) -> Result<(), Failed>
     ensures { Writes (roster_text roster.now) (O.told out.old) (O.told out.new) result }
 {
     let decl = roster.decl();
-    write_head(version_of(decl), out)?;
+    let own = decl.has_own_bounds();
+    write_head(version_of(roster, own), out)?;
     write_clocks(decl, out)?;
     write_follows(roster, out)?;
-    write_events(roster, out)?;
+    write_events(roster, own, out)?;
     write_messages(roster, out)?;
     write_end(out)
 }

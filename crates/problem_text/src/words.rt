@@ -1,13 +1,15 @@
 // Lines that are composed word by word.
 ghost use Rattle.std.specs.Prelude.{◌≡◌, ◌≤◌, ◌+◌, ◌++◌, ◌∷◌, [], ℕ, List, length};
 ghost use Rattle.line_format.specs.Words.{words, line_of};
-ghost use Rattle.problem_model.specs.ProblemText.{clock_line, most_word};
+ghost use Rattle.std.specs.Prelude.{codes};
+ghost use Rattle.atto.specs.Decimal.{decimal_of};
+ghost use Rattle.problem_model.specs.ProblemText.{bound_words, clock_line, most_word};
 ghost use Rattle.problem.specs.Line.{line_words};
-ghost use Rattle.problem.specs.Line.Line.{FollowLine, EventLine, MessageLine};
+ghost use Rattle.problem.specs.Line.Line.{FollowLine, MessageLine};
 
 use atto::Nano;
 use ports::fixed_line::{Line, first_word, push_decimal, push_word};
-use problem_model::{Clock, Name};
+use problem_model::{Clock, Name, StampBounds};
 
 // Appends a name behind a space.
 fn push_name(line: &mut Line, name: &Name)
@@ -27,6 +29,21 @@ fn push_most(line: &mut Line, most: Option<Nano>)
     match most {
         Some(most) => push_decimal(line, most.get()),
         None => push_word(line, b"none"),
+    }
+}
+
+// Appends an event's own bounds, if it has any, each behind a space.
+fn push_bounds(line: &mut Line, bounds: Option<StampBounds>)
+    requires { length line.old.items + 98 ≤ 256 }
+    ensures appended { (first : List ℕ) (ws : List (List ℕ)) → line.old.items ≡ words (first ∷ ws) → line.new.items ≡ words (first ∷ ws ++ bound_words bounds) }
+    ensures grown { length line.new.items ≤ length line.old.items + 98 }
+{
+    match bounds {
+        Some(own) => {
+            push_decimal(line, own.early.get());
+            push_decimal(line, own.late.get());
+        }
+        None => {}
     }
 }
 
@@ -56,14 +73,15 @@ pub fn follow_line(earlier: &Name, later: &Name, gap: Nano) -> Line
     line
 }
 
-/// The line of an event, by its name, the name of its clock and its stamp.
-pub fn event_line(name: &Name, clock: &Name, stamp: Nano) -> Line
-    ensures { result.items ≡ line_of (line_words (EventLine name.now clock.now stamp)) }
+/// The line of an event, by its name, the name of its clock, its stamp, and its own bounds, if it has any.
+pub fn event_line(name: &Name, clock: &Name, stamp: Nano, bounds: Option<StampBounds>) -> Line
+    ensures { result.items ≡ line_of (codes "event" ∷ name.now ∷ clock.now ∷ decimal_of stamp ∷ bound_words bounds) }
 {
     let mut line = first_word(b"event");
     push_name(&mut line, name);
     push_name(&mut line, clock);
     push_decimal(&mut line, stamp.get());
+    push_bounds(&mut line, bounds);
     line.push(b'\n');
     line
 }

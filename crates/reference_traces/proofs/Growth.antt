@@ -1,5 +1,5 @@
 -- A problem that grows towards that of events and messages under a declaration.
-use Rattle.std.proofs.Common.{◌≡◌, ◌≢◌, ◌<◌, ◌+◌, ℕ, List, [], map, take, length, slice_get, Option, Some, refl, sym, ap, subst}
+use Rattle.std.proofs.Common.{◌≡◌, ◌≢◌, ◌<◌, ◌+◌, ℕ, List, [], map, take, length, slice_get, Option, Some, is_some, refl, sym, ap, subst}
 use Rattle.std.proofs.lemmas.List.{length-map}
 use Rattle.std.proofs.lemmas.List.Elements.{All-map}
 use Rattle.problem_model.specs.declared.items.Clock.{Clock}
@@ -13,10 +13,10 @@ use Rattle.decl.specs.Declaration.{Declaration, IsDeclaration, HasLawfulClocks, 
 use Rattle.traces.specs.declared.event_id.EventId.{EventId}
 use Rattle.traces.specs.declared.event_id.Couple.{Couple}
 use Rattle.traces.specs.Traces.{Placed, name_of, host_of}
-use Rattle.traces.specs.Messages.{event_with, linked, place_of}
+use Rattle.traces.specs.Messages.{bounds_of, event_with, linked, place_of}
 use Rattle.traces.specs.Making.{problem_by, IsOneOf, AreEventsOf, AreMessages}
 use Rattle.traces.proofs.Lists.{all_at, place_in}
-use Rattle.traces.proofs.Whole.{clock_there, all_names_differ, apart, ends_apart}
+use Rattle.traces.proofs.Whole.{clock_there, all_alike, all_names_differ, apart, ends_apart}
 use Rattle.traces.proofs.Places.{name_there, place_within, the_place}
 use Rattle.reference_traces.proofs.Taken.{pairs_before, map_next}
 
@@ -38,6 +38,8 @@ module _ (d : Declaration) (lawful : IsDeclaration d) (events : List Placed) (ar
     new = All-map (λ (x : Event). x.name ≢ name_of d e.id) (event_with d) (take k events)
         (pairs_before (λ (a b : Placed). name_of d a.id ≢ name_of d b.id) events k e (all_names_differ d lawful events are) at);
     clock = clock_there d e.id lawful.clocks lawful.labels (all_at (λ (x : Placed). x.id.label < length d.labels) events k e are.labels at);
+    alike = All-map (λ (x : Event). is_some x.bounds ≡ is_some (bounds_of d e.id)) (event_with d) (take k events)
+        (pairs_before (λ (a b : Placed). is_some (bounds_of d a.id) ≡ is_some (bounds_of d b.id)) events k e (all_alike d lawful events are) at);
   }
 
 pub event_more : (d : Declaration) (events : List Placed) (k : ℕ) (e : Placed) → slice_get events k ≡ Some e →

@@ -4,12 +4,12 @@ ghost use Rattle.decl.specs.Declaration.{HasLawfulLabels, declaration_of, link_b
 ghost use Rattle.problem.specs.Line.{HasEvent};
 ghost use Rattle.reference_traces.specs.Known.{IsKnownEvent};
 ghost use Rattle.traces.specs.Traces.{name_of, host_of, clock_of};
-ghost use Rattle.traces.specs.Messages.{event_with};
+ghost use Rattle.traces.specs.Messages.{bounds_of, event_with};
 ghost use Rattle.traces.specs.Held.{placed_of};
 
 use decl::Decl;
 use problem::Problem;
-use problem_model::{Event, Message};
+use problem_model::{Event, Message, StampBounds};
 use traces::{Couple, EventId, PlacedEvent, name_of};
 
 // The host that an event happened at.
@@ -28,7 +28,15 @@ fn clock_of(decl: &Decl, id: EventId) -> u32
     decl.labels[id.label as usize].clock
 }
 
-/// An event with its name, on the clock of its label.
+// The bounds that an event has of its own.
+fn bounds_of(decl: &Decl, id: EventId) -> Option<StampBounds>
+    requires { id.label < length decl.now.labels.items }
+    ensures { result ≡ bounds_of (declaration_of decl.now) id }
+{
+    decl.own_bounds(&decl.labels[id.label as usize])
+}
+
+/// An event with its name and its own bounds, on the clock of its label.
 pub(crate) fn event_of(decl: &Decl, e: &PlacedEvent) -> Event
     requires labels { HasLawfulLabels (declaration_of decl.now) }
     requires label { e.now.id.label < length decl.now.labels.items }
@@ -38,6 +46,7 @@ pub(crate) fn event_of(decl: &Decl, e: &PlacedEvent) -> Event
         name: name_of(decl, e.id),
         clock: clock_of(decl, e.id),
         stamp: e.event.stamp,
+        bounds: bounds_of(decl, e.id),
     }
 }
 

@@ -12,7 +12,7 @@ use Rattle.sync_graph.specs.Graph.{GraphLists}
 use Rattle.traces.specs.Seen.{Seen}
 use Rattle.traces.specs.declared.event_id.EventId.{EventId}
 use Rattle.traces.specs.Traces.{numbered, events_from, name_of, clock_of}
-use Rattle.traces.specs.Messages.{event_with, problem_of_seen}
+use Rattle.traces.specs.Messages.{bounds_of, event_with, problem_of_seen}
 use Rattle.traces.proofs.Members.{no_pairs, pairs_joined}
 use Rattle.traces.proofs.Lists.{place_in, pairs_map}
 use Rattle.roster.specs.declared.came.Came.{Came}
@@ -153,8 +153,8 @@ module _ (r : RosterLists) (is : IsRoster r) (seen : List (List Seen)) (holds : 
       ap id_of (event_is v e.0 e.1) ∙ e.2 ∙ ap (λ (m : ℕ). let i : EventId = record { label = h; number = m } in i) on ∙ ap (λ (l : ℕ). let i : EventId = record { label = l; number = number } in i) back in
       let stamp = same_stamp r.under seen holds h k v s at at' in
       let d = r.declaration in
-      ap (λ (i : EventId). let x : Event = record { name = name_of d i; clock = clock_of d i; stamp = stamp_by v } in x) id
-      ∙ ap (λ (t : ℕ). let x : Event = record { name = name_of d (record { label = 0 + h; number = number }); clock = clock_of d (record { label = 0 + h; number = number }); stamp = t } in x) stamp
+      ap (λ (i : EventId). let x : Event = record { name = name_of d i; clock = clock_of d i; stamp = stamp_by v; bounds = bounds_of d i } in x) id
+      ∙ ap (λ (t : ℕ). let x : Event = record { name = name_of d (record { label = 0 + h; number = number }); clock = clock_of d (record { label = 0 + h; number = number }); stamp = t; bounds = bounds_of d (record { label = 0 + h; number = number }) } in x) stamp
 
   -- the listed events are those of the problem, in their order
   pub events_are : map {A = ℕ × ℕ} {B = Event} (λ e. event_by e.0) (listed r).events ≡ (problem_of_seen r.declaration seen).events

@@ -7,14 +7,15 @@ use Rattle.problem_model.specs.Problem.{ProblemLists}
 use Rattle.decl.specs.Declaration.{Declaration, follows_of}
 use Rattle.sync_graph.specs.Graph.{GraphLists}
 use Rattle.traces.specs.Traces.{name_of, clock_of}
+use Rattle.traces.specs.Messages.{bounds_of}
 use Rattle.roster.specs.declared.came.Came.{Came}
 use Rattle.roster.specs.Groups.{group_at}
 use Rattle.roster.specs.Readings.{Stamped}
 use Rattle.roster.specs.Roster.{RosterLists, id_of}
 
--- an event with its name, on the clock of its label
+-- an event with its name and its own bounds, on the clock of its label
 abbrev pub named_event : Declaration → Came → Event
-named_event d e = record { name = name_of d (id_of e); clock = clock_of d (id_of e); stamp = e.stamp }
+named_event d e = record { name = name_of d (id_of e); clock = clock_of d (id_of e); stamp = e.stamp; bounds = bounds_of d (id_of e) }
 
 -- the problem of the declaration, with the events as they came and these messages, whose ends are numbers
 abbrev pub problem_by_number : RosterLists → List Message → ProblemLists

@@ -1,10 +1,10 @@
 -- Groups while events come: events of one group stay in one, and a group that has none of those that came was one before.
-use Rattle.std.proofs.Common.{◌≡◌, ◌==◌, ◌&&◌, ◌⊎◌, ℕ, List, [], ◌∷◌, ◌++◌, Bool, cond, Option, Some, None, inl, inr, refl, sym, ap, ◌∙◌, subst}
+use Rattle.std.proofs.Common.{◌≡◌, ◌&&◌, ◌⊎◌, ℕ, List, [], ◌∷◌, ◌++◌, Bool, cond, Option, Some, None, inl, inr, refl, sym, ap, ◌∙◌, subst}
 use Rattle.std.specs.Prelude.{ℤ, Contains}
 use Rattle.std.proofs.lemmas.Option.{none-some, same_Some}
 use Rattle.traces.specs.Beginnings.{beginning}
 use Rattle.traces.specs.Seen.{EventKey, MessageKey, SeenMoment, is_same_message}
-use Rattle.traces.specs.Windows.{group_key, is_alike, is_same_window, time_in, time_with, times_of}
+use Rattle.traces.specs.Windows.{group_key, is_same_window, time_in, time_with, times_of}
 use Rattle.traces.proofs.Beginnings.{once_one, still_one}
 use Rattle.traces.proofs.Members.{giver}
 use Rattle.msg_match.proofs.GroupedEnds.{alike_key, made_key, own_time, times_moved}

@@ -1,5 +1,5 @@
 -- One event of a roster enters: all that holds of the roster and the graph behind it.
-use Rattle.std.proofs.Common.{◌≡◌, ◌≢◌, ◌⊎◌, ◌<◌, ◌≤◌, ◌+◌, ◌==◌, ◌||◌, ℕ, zero, suc, Bool, true, false, List, [], ◌∷◌, ◌++◌, Some, length, map, get_or, set, slice_get, Contains, refl, sym, ◌∙◌, ap, subst, arith, inl, inr, length-append}
+use Rattle.std.proofs.Common.{◌≡◌, ◌≢◌, ◌⊎◌, ◌<◌, ◌≤◌, ◌+◌, ◌==◌, ◌||◌, ℕ, zero, suc, Bool, true, false, List, [], ◌∷◌, ◌++◌, Option, Some, None, length, map, get_or, set, slice_get, Contains, refl, sym, ◌∙◌, ap, subst, arith, inl, inr, length-append}
 use Rattle.std.specs.Prelude.{IfSome}
 use Rattle.std.proofs.lemmas.Bool.{cases_Bool, cases_eq}
 use Rattle.std.proofs.lemmas.List.{length-set, get_or-set_same, get_or-set_other}
@@ -8,6 +8,7 @@ use Rattle.std.proofs.lemmas.Option.{none-some, same_Some, slice_get_within, get
 use Rattle.problem_model.specs.declared.items.Clock.{Clock}
 use Rattle.problem_model.specs.declared.items.Event.{Event}
 use Rattle.problem_model.specs.declared.items.Message.{Message}
+use Rattle.problem_model.specs.declared.items.StampBounds.{StampBounds}
 use Rattle.problem_model.specs.declared.items.Node.{Node}
 use Rattle.problem_model.specs.declared.items.Node.TheVariants as nodes
 use Rattle.problem_model.specs.declared.items.Bound.{Bound}
@@ -23,6 +24,7 @@ use Rattle.problem_graph.specs.Standing.{HasNode}
 use Rattle.solver.specs.Solver.{SolverLists, HasRoom, with_new_node}
 use Rattle.traces.specs.Seen.{Seen}
 use Rattle.traces.specs.Traces.{clock_of}
+use Rattle.traces.specs.Messages.{bounds_of}
 use Rattle.traces.proofs.Members.{no_pairs}
 use Rattle.traces.proofs.Lists.{place_in}
 use Rattle.roster.specs.declared.came.Came.{Came}
@@ -131,9 +133,9 @@ module _ (r : RosterLists) (is : IsRoster r) (v : ℕ) (e : Came) (at : slice_ge
   module _ (known : Bool) (n : Nearest) (has : known ≡ true → HasNode s.graph (nodes.Reading place e.stamp)) (fresh : known ≡ false → HasNode s.graph (nodes.Reading place e.stamp) → ⊥)
       (near : (p : ProblemLists) (y : Event) → p.follows ≡ follows_of r.declaration → y.clock ≡ place → y.stamp ≡ e.stamp → AreNearest p s.graph y n.below n.above n.earlier n.later)
       (lies : IfSome n.later (λ x. x.0 < length r.declaration.clocks)) where
-    -- the reading of the event, whatever its name
+    -- the reading of the event, whatever its name and its own bounds
     abbrev reads : Event
-    reads = record { name = []; clock = place; stamp = e.stamp }
+    reads = record { name = []; clock = place; stamp = e.stamp; bounds = None }
 
     beside : (messages : List Message) → AreBeside (problem_by_number r messages) place n
     beside messages = beside_by (problem_by_number r messages) s.graph reads n (near (problem_by_number r messages) reads refl refl refl)
@@ -257,7 +259,8 @@ module _ (r : RosterLists) (is : IsRoster r) (v : ℕ) (e : Came) (at : slice_ge
 
         -- ---- behind the bounds
         module _ (s3 : SolverLists) (brings : Brings (bounds_beside place e.stamp n ++ (Late v ∷ Early v ∷ [])) s2 s3) (clock : Clock) (clock_is : slice_get r.declaration.clocks place ≡ Some clock)
-            (left : (p : ProblemLists) (flags : ℕ → Bool) (y : Event) → EventAt p v y → y.clock ≡ place → y.stamp ≡ e.stamp → ClockAt p place clock
+            (own : Option StampBounds) (own_is : bounds_of r.declaration (id_of e) ≡ own)
+            (left : (p : ProblemLists) (flags : ℕ → Bool) (y : Event) → EventAt p v y → y.clock ≡ place → y.stamp ≡ e.stamp → y.bounds ≡ own → ClockAt p place clock
             → p.follows ≡ follows_of r3.declaration → AreBeside p place n → IsGrowing p flags (bounds_beside place e.stamp n ++ (Late v ∷ Early v ∷ [])) s2.graph → IsGrowing p flags [] s3.graph) where
           kept_at : (k : ℕ) (n : Node) → slice_get s.graph.nodes k ≡ Some n → slice_get s3.graph.nodes k ≡ Some n
           kept_at k n at' = ap (λ (ns : List Node). slice_get ns k) brings.nodes ∙ enters.kept k n at'
@@ -394,7 +397,7 @@ module _ (r : RosterLists) (is : IsRoster r) (v : ℕ) (e : Came) (at : slice_ge
 
             growing : IsGrowing (problem_by_number r messages) (and_event entered v) [] s3.graph
             growing =
-                left (problem_by_number r messages) (and_event entered v) x (event_is messages) place_is refl clock_is (ap follows_of (sym declaration_is)) (beside messages)
+                left (problem_by_number r messages) (and_event entered v) x (event_is messages) place_is refl own_is clock_is (ap follows_of (sym declaration_is)) (beside messages)
                 (subst (λ (c : ℕ). IsGrowing (problem_by_number r messages) (and_event entered v) (own_bounds c n) s2.graph) place_is
                 (entered_now (problem_by_number r messages) entered v x (event_is messages) n.below n.above n.earlier n.later [] s.graph chains near_own none_own way.grown s2.graph enters))
 

@@ -74,10 +74,10 @@ pub near_by : (p : ProblemLists) (g : GraphLists) (place stamp : ℕ) (known : B
     → (known ≡ false → HasNode g (nodes.Reading place stamp) → ⊥) → (known ≡ true → (o ≡ None) × (u ≡ None) × (a ≡ None) × (b ≡ None))
     → (known ≡ false → IsStampBelow g place stamp o × IsStampAbove g place stamp u × IsEarlierEnd p g place o a × IsLaterEnd p g place u b) → AreNearest p g e o u a b
 near_by p g place stamp known o u a b e on is has fresh none some =
-    subst (λ (c : ℕ). AreNearest p g (record { name = e.name; clock = c; stamp = e.stamp }) o u a b) (sym on)
-    (subst (λ (t : ℕ). AreNearest p g (record { name = e.name; clock = place; stamp = t }) o u a b) (sym is) here)
+    subst (λ (c : ℕ). AreNearest p g (record { name = e.name; clock = c; stamp = e.stamp; bounds = e.bounds }) o u a b) (sym on)
+    (subst (λ (t : ℕ). AreNearest p g (record { name = e.name; clock = place; stamp = t; bounds = e.bounds }) o u a b) (sym is) here)
   where
-    here : AreNearest p g (record { name = e.name; clock = place; stamp = stamp }) o u a b
+    here : AreNearest p g (record { name = e.name; clock = place; stamp = stamp; bounds = e.bounds }) o u a b
     here = elim (cases_Bool known) [
       | inl k ↦ (let (under, over, before, after) = none k in inl (has k, under, over, before, after))
       | inr k ↦ (let (under, over, before, after) = some k in inr (fresh k, under, over, before, after))

@@ -9,7 +9,7 @@ ghost use Rattle.session_graph.specs.Extensions.{TakesFewToPush};
 ghost use Rattle.session_graph.specs.Plans.{turn_numbers, messages_in};
 ghost use Rattle.session_graph.specs.Arrivals.{HasRoomFor, HaveOwnSends, HaveCome};
 
-use crate::entries::{enter, has_entered};
+use crate::entries::{enter, gives_bounds, has_entered};
 use crate::joints::join;
 use crate::plans::{Due, Turn};
 use atto::Steps;
@@ -95,6 +95,7 @@ pub(crate) fn come<L: Ledger>(
     ensures declaration { roster.new.declaration ≡ roster.old.declaration }
     ensures steps { OnOk result (TakesFewToPush solver.old solver.new steps.old steps.new) }
 {
+    let given = gives_bounds(roster);
     let mut next = 0;
     let mut left = dues.len();
     let mut hint = 0;
@@ -106,7 +107,7 @@ pub(crate) fn come<L: Ledger>(
             join(roster, solver, &due.message, steps)?;
         } else {
             let event = event_at(turns, next);
-            hint = enter(roster, solver, event, hint, steps)?;
+            hint = enter(roster, solver, event, given, hint, steps)?;
             next += 1;
         }
     }

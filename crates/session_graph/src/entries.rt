@@ -7,11 +7,12 @@ ghost use Rattle.problem_model.specs.declared.items.Bound.TheVariants.{Late, Ear
 ghost use Rattle.problem_model.specs.Problem.{ProblemLists};
 ghost use Rattle.problem_model.specs.Bounds.{ClockAt, EventAt};
 ghost use Rattle.problem_model.specs.Limits.{most_arcs, most_nodes};
-ghost use Rattle.decl.specs.Declaration.{follows_of};
+ghost use Rattle.decl.specs.Declaration.{declaration_of, follows_of, has_own_bounds, own_bounds};
 ghost use Rattle.problem_graph.specs.Standing.{HasNode};
 ghost use Rattle.solver.specs.Solver.{HasRoom, with_new_node};
 ghost use Rattle.solver.specs.Current.{IsCurrent};
 ghost use Rattle.traces.specs.Traces.{clock_of};
+ghost use Rattle.traces.specs.Messages.{bounds_of};
 ghost use Rattle.roster.specs.Groups.{group_at};
 ghost use Rattle.roster.specs.Readings.{HasStamp};
 ghost use Rattle.roster.specs.Roster.{SetsReading, event_at};
@@ -27,7 +28,8 @@ use crate::links::push_links;
 use crate::nearest::is_known;
 use crate::pushes::{ClockReading, push_stamp};
 use atto::{Nano, Steps};
-use problem_model::{Clock, Node};
+use decl::{Decl, Label};
+use problem_model::{Clock, Node, StampBounds};
 use roster::Roster;
 use solver::Solver;
 use std::alloc::AllocError;
@@ -84,6 +86,7 @@ fn push_entry<L: Ledger>(
     solver: &mut Solver,
     v: u32,
     reading: &ClockReading,
+    own: &Option<StampBounds>,
     nearest: &Nearest,
     steps: &mut Steps<L>,
 ) -> Result<(), AllocError>
@@ -96,12 +99,12 @@ fn push_entry<L: Ledger>(
     ensures brings { OnOk result (Brings (bounds_beside reading.now.place reading.now.stamp nearest.now ++ (Late v ∷ Early v ∷ [])) solver.old solver.new) }
     ensures steps { OnOk result (TakesFewToPush solver.old solver.new steps.old steps.new) }
     ensures left { OnOk result ((p : ProblemLists) (entered : ℕ → Bool) (e : items.Event)
-        → EventAt p v e → e.clock ≡ reading.now.place → e.stamp ≡ reading.now.stamp → ClockAt p reading.now.place reading.now.clock
+        → EventAt p v e → e.clock ≡ reading.now.place → e.stamp ≡ reading.now.stamp → e.bounds ≡ own.now → ClockAt p reading.now.place reading.now.clock
         → p.follows ≡ follows_of roster.now.declaration → AreBeside p reading.now.place nearest.now
         → IsGrowing p entered (bounds_beside reading.now.place reading.now.stamp nearest.now ++ (Late v ∷ Early v ∷ [])) solver.old.graph → IsGrowing p entered [] solver.new.graph) }
 {
     push_links(roster, solver, reading, nearest, steps)?;
-    push_stamp(solver, v, reading, steps)?;
+    push_stamp(solver, v, reading, own, steps)?;
     Ok(())
 }
 
@@ -120,6 +123,31 @@ fn clock_at(roster: &Roster, place: u32) -> Clock
     ensures { slice_get roster.now.declaration.clocks place ≡ Some result }
 {
     roster.decl().clocks[place as usize]
+}
+
+/// Whether some label of the declaration gives a bound of its trace's own stamps. It takes a step for each label.
+pub(crate) fn gives_bounds(roster: &Roster) -> bool
+    ensures { result ≡ has_own_bounds roster.now.declaration }
+{
+    roster.decl().has_own_bounds()
+}
+
+// The bounds that events of a label have of their own; `given` says whether some label gives any.
+fn bounds_if(given: bool, decl: &Decl, label: &Label) -> Option<StampBounds>
+    requires { given ≡ has_own_bounds (declaration_of decl.now) }
+    ensures { result ≡ own_bounds (declaration_of decl.now) label.now }
+{
+    if given { decl.bounds_at(label) } else { None }
+}
+
+// The bounds that events of the label at a place have of their own.
+fn bounds_of(roster: &Roster, label: u32, given: bool) -> Option<StampBounds>
+    requires label { label < length roster.now.declaration.labels }
+    requires given { given ≡ has_own_bounds roster.now.declaration }
+    ensures { (number : ℕ) → bounds_of roster.now.declaration (record { label = label; number = number }) ≡ result }
+{
+    let decl = roster.decl();
+    bounds_if(given, decl, &decl.labels[label as usize])
 }
 
 /// Whether an event has entered the graph.
@@ -143,10 +171,12 @@ fn enter_new<L: Ledger>(
     roster: &mut Roster,
     solver: &mut Solver,
     v: u32,
+    given: bool,
     hint: u64,
     steps: &mut Steps<L>,
 ) -> Result<u64, AllocError>
     requires inside { v < length roster.old.came }
+    requires given { given ≡ has_own_bounds roster.old.declaration }
     requires new { HasNode solver.old.graph (nodes.Event v) → ⊥ }
     requires ready { (entered : ℕ → Bool) × (messages : List Message) × IsEntering entered messages roster.old solver.old }
     requires room { HasRoomFor 2 6 solver.old }
@@ -163,6 +193,7 @@ fn enter_new<L: Ledger>(
     let stamp = came.stamp;
     let place = clock_of(roster, came.label);
     let clock = clock_at(roster, place);
+    let own = bounds_of(roster, came.label, given);
     let known = is_known(solver, place, stamp);
     let nearest = nearest_of(roster, solver, place, stamp, known, hint);
     let next = hint_of(&nearest.above, hint);
@@ -173,21 +204,24 @@ fn enter_new<L: Ledger>(
         clock,
         stamp,
     };
-    push_entry(roster, solver, v, &reading, &nearest, steps)?;
+    push_entry(roster, solver, v, &reading, &own, &nearest, steps)?;
     Ok(next)
 }
 
-/// An event of the roster enters the graph, unless it has. There is room for its nodes. The answer is a stamp, in ns,
-/// that may be the nearest one above the next event, as the hint may be that of this one: a wrong one costs time alone.
-/// An error comes only where memory runs out, and then roster and graph are used no more.
+/// An event of the roster enters the graph, unless it has. There is room for its nodes. `given` says whether some label
+/// gives a bound of its trace's own stamps. The answer is a stamp, in ns, that may be the nearest one above the next
+/// event, as the hint may be that of this one: a wrong one costs time alone. An error comes only where memory runs out,
+/// and then roster and graph are used no more.
 pub(crate) fn enter<L: Ledger>(
     roster: &mut Roster,
     solver: &mut Solver,
     v: u32,
+    given: bool,
     hint: u64,
     steps: &mut Steps<L>,
 ) -> Result<u64, AllocError>
     requires inside { v < length roster.old.came }
+    requires given { given ≡ has_own_bounds roster.old.declaration }
     requires ready { (entered : ℕ → Bool) × (messages : List Message) × IsEntering entered messages roster.old solver.old }
     requires room { HasRoomFor 2 6 solver.old }
     ensures come { OnOk result (HaveCome [] roster.old roster.new solver.old solver.new) }
@@ -200,5 +234,5 @@ pub(crate) fn enter<L: Ledger>(
     if has_entered(solver, v) {
         return Ok(hint);
     }
-    enter_new(roster, solver, v, hint, steps)
+    enter_new(roster, solver, v, given, hint, steps)
 }

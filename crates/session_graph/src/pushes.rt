@@ -20,7 +20,7 @@ ghost use Rattle.session_graph.specs.Extensions.{TakesFewToPush};
 use atto::{Nano, Steps};
 use problem::NearestFollow;
 use problem_graph::{Arcs, follow_arcs, span_arcs, stamp_arcs};
-use problem_model::{Clock, Node};
+use problem_model::{Clock, Node, StampBounds};
 use solver::Solver;
 use std::alloc::AllocError;
 use std::sync::ledger::Ledger;
@@ -106,11 +106,13 @@ pub(crate) fn push_span<L: Ledger>(
     push_arcs(solver, arcs, steps)
 }
 
-/// Brings in both bounds on the stamp of an event, which is that of a reading.
+/// Brings in both bounds on the stamp of an event, which is that of a reading: by the event's own bounds, where it has
+/// any.
 pub(crate) fn push_stamp<L: Ledger>(
     solver: &mut Solver,
     v: u32,
     reading: &ClockReading,
+    own: &Option<StampBounds>,
     steps: &mut Steps<L>,
 ) -> Result<(), AllocError>
     requires current { IsCurrent solver.old }
@@ -120,7 +122,7 @@ pub(crate) fn push_stamp<L: Ledger>(
     ensures brings { OnOk result (Brings (Late v ∷ Early v ∷ []) solver.old solver.new) }
     ensures steps { OnOk result (TakesFewToPush solver.old solver.new steps.old steps.new) }
     ensures left { OnOk result ((p : ProblemLists) (entered : ℕ → Bool) (rest : List Bound) (e : Event)
-        → EventAt p v e → e.clock ≡ reading.now.place → e.stamp ≡ reading.now.stamp → ClockAt p reading.now.place reading.now.clock
+        → EventAt p v e → e.clock ≡ reading.now.place → e.stamp ≡ reading.now.stamp → e.bounds ≡ own.now → ClockAt p reading.now.place reading.now.clock
         → IsGrowing p entered (Late v ∷ Early v ∷ rest) solver.old.graph → IsGrowing p entered rest solver.new.graph) }
 {
     let first = number_of(solver, Node::Reading(reading.place, reading.stamp));
@@ -130,6 +132,7 @@ pub(crate) fn push_stamp<L: Ledger>(
         reading.place,
         &reading.clock,
         reading.stamp,
+        own,
         first,
         second,
     );

@@ -1,10 +1,11 @@
 -- The messages among events, and the problem of a declaration and traces.
-use Rattle.std.specs.Prelude.{ℕ, List, [], ◌∷◌, length, map, filter, position, unwrap_or, Option, Bool, not, ◌&&◌}
+use Rattle.std.specs.Prelude.{ℕ, List, [], ◌∷◌, length, map, filter, position, unwrap_or, slice_get, Option, option_and_then, Bool, not, ◌&&◌}
 use Rattle.std.specs.List.{flat_map, list_any}
 use Rattle.problem_model.specs.declared.items.Event.{Event}
 use Rattle.problem_model.specs.declared.items.Message.{Message}
+use Rattle.problem_model.specs.declared.items.StampBounds.{StampBounds}
 use Rattle.problem_model.specs.Problem.{ProblemLists}
-use Rattle.decl.specs.Declaration.{Declaration, link_bounds, follows_of}
+use Rattle.decl.specs.Declaration.{Declaration, link_bounds, follows_of, own_bounds}
 use Rattle.traces.specs.declared.event.Side.{Side}
 use Rattle.traces.specs.declared.event.Side.TheVariants.{Send, Receive}
 use Rattle.traces.specs.Seen.{EventKey, SeenMark, Keyed, Unkeyed, Seen, is_mark}
@@ -51,9 +52,13 @@ missing xs ys = length (filter (λ (x : Couple). not (list_any (λ (y : Couple).
 abbrev pub place_of : List Placed → EventId → ℕ
 place_of events id = unwrap_or (position (λ (e : Placed). is_same e.id id) events) 0
 
--- an event with its name, on the clock of its label
+-- the bounds that an event has of its own: those of its label's trace, where the declaration gives any
+abbrev pub bounds_of : Declaration → EventId → Option StampBounds
+bounds_of d id = option_and_then (own_bounds d) (slice_get d.labels id.label)
+
+-- an event with its name and its own bounds, on the clock of its label
 abbrev pub event_with : Declaration → Placed → Event
-event_with d e = record { name = name_of d e.id; clock = clock_of d e.id; stamp = e.seen.stamp }
+event_with d e = record { name = name_of d e.id; clock = clock_of d e.id; stamp = e.seen.stamp; bounds = bounds_of d e.id }
 
 -- a message with the bounds of a link
 abbrev pub message_with : List Placed → Couple → ℕ × Option ℕ → Message

@@ -1,8 +1,8 @@
-use Rattle.std.proofs.Common.{◌≡◌, ◌<◌, List, length, get_or, slice_get, Some, ◌∙◌, ap, subst, arith}
+use Rattle.std.proofs.Common.{◌≡◌, ◌<◌, List, length, get_or, slice_get, Some, ◌∙◌, sym, ap, subst, arith}
 use Rattle.std.proofs.lemmas.List.{length-map}
 use Rattle.problem_model.specs.declared.items.Clock.{Clock}
 use Rattle.decl.specs.declared.items.Label.{Label}
-use Rattle.decl.specs.Declaration.{Declaration}
+use Rattle.decl.specs.Declaration.{Declaration, has_own_bounds, own_bounds}
 use Rattle.roster.proofs.ListedPlaces.{own_label}
 use Rattle.roster.proofs.Pushing.{clock_inside}
 use Rattle.problem_text.proofs.LineTexts.{came_text}
@@ -12,17 +12,20 @@ pub clock_name-clock-requires : goal.clock_name-clock-requires
 clock_name-clock-requires c =
     let r = c.args.roster.now in
     let e = c.event-came.result in
-    let l : Label = c.index.result.now in
-    let same = ap (λ (d : Declaration). d.labels) c.decl.ensures.same in
-    let own : slice_get r.declaration.labels e.label ≡ Some l = own_label r c.decl.ensures.lawful c.args.v e c.event-came.ensures l (subst (λ (xs : List Label). l ≡ get_or xs e.label l) same c.index.ensures) in
-    let inside : l.clock < length r.declaration.clocks = clock_inside r.declaration l e.label c.decl.ensures.lawful.declared own in
+    let l : Label = c.index-label.result.now in
+    let same = ap (λ (d : Declaration). d.labels) c.decl-decl.ensures.same in
+    let own : slice_get r.declaration.labels e.label ≡ Some l = own_label r c.decl-decl.ensures.lawful c.args.v e c.event-came.ensures l (subst (λ (xs : List Label). l ≡ get_or xs e.label l) same c.index-label.ensures) in
+    let inside : l.clock < length r.declaration.clocks = clock_inside r.declaration l e.label c.decl-decl.ensures.lawful.declared own in
     omega (arith, inside, length-map r.declaration.clocks (λ (x : Clock). x.name))
 
 pub returns : goal.returns
 returns c =
     let r = c.args.roster.now in
     let e = c.event-came.result in
-    let l : Label = c.index.result.now in
-    let same = ap (λ (d : Declaration). d.labels) c.decl.ensures.same in
-    let own : slice_get r.declaration.labels e.label ≡ Some l = own_label r c.decl.ensures.lawful c.args.v e c.event-came.ensures l (subst (λ (xs : List Label). l ≡ get_or xs e.label l) same c.index.ensures) in
-    c.event_line.ensures ∙ came_text r c.decl.ensures.lawful c.args.v e l c.event_name-name.result c.clock_name-clock.result c.event-came.ensures own c.event_name-name.ensures c.clock_name-clock.ensures
+    let l : Label = c.index-label.result.now in
+    let same = ap (λ (d : Declaration). d.labels) c.decl-decl.ensures.same in
+    let own : slice_get r.declaration.labels e.label ≡ Some l = own_label r c.decl-decl.ensures.lawful c.args.v e c.event-came.ensures l (subst (λ (xs : List Label). l ≡ get_or xs e.label l) same c.index-label.ensures) in
+    c.event_line.ensures ∙ came_text r c.decl-decl.ensures.lawful c.args.v e l c.event_name-name.result c.clock_name-clock.result c.bounds_if.result c.event-came.ensures own (c.bounds_if.ensures ∙ ap (λ (d : Declaration). own_bounds d l) c.decl-decl.ensures.same) c.event_name-name.ensures c.clock_name-clock.ensures
+
+pub bounds_if-requires : goal.bounds_if-requires
+bounds_if-requires c = c.requires.own ∙ sym (ap has_own_bounds c.decl-decl.ensures.same)

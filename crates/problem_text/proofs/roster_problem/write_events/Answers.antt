@@ -11,8 +11,8 @@ loop-place-init g c =
     let all = came_lines c.args.roster.now in
     leaves_as (ap (λ (l : List ℕ). l ++ all) (sym c.new-page.ensures)) (leaves_all (g.O.Sink.told c.args.out.now) all)
 
-pub came_line-requires : goal.came_line-requires
-came_line-requires g c = named_came c.args.roster.now c.event_at-v.result.0 c.event_at-v.ensures.named
+pub came_line-requires-clause-came : goal.came_line-requires-clause-came
+came_line-requires-clause-came g c = named_came c.args.roster.now c.event_at-v.result.0 c.event_at-v.ensures.named
 
 pub returns-in_err-put : goal.returns-in_err-put
 returns-in_err-put g c =

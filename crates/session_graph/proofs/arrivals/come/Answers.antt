@@ -5,6 +5,7 @@ use Rattle.std.proofs.lemmas.Option.{same_Some}
 use Rattle.problem_model.specs.declared.items.Message.{Message}
 use Rattle.problem_model.specs.declared.items.Node.{Node}
 use Rattle.problem_model.specs.declared.items.Node.TheVariants as nodes
+use Rattle.decl.specs.Declaration.{Declaration, has_own_bounds}
 use Rattle.problem_graph.specs.Standing.{HasNode}
 use Rattle.roster.proofs.Telling.{among}
 use Rattle.session_graph.specs.declared.plans.Due.{Due}
@@ -103,6 +104,9 @@ enter-requires-clause-inside g c =
     let count = c.loop-k.invariant.at.come.keeps.count in
     let inside = All-contains (λ (v : ℕ). v < length c.args.roster.now.came) (turn_numbers c.args.turns.now) c.event_at-event.result c.requires.inside (among (turn_numbers c.args.turns.now) c.loop-k.next c.event_at-event.result c.event_at-event.ensures) in
     omega (arith, count, inside)
+
+pub enter-requires-clause-given : goal.enter-requires-clause-given
+enter-requires-clause-given g c = c.gives_bounds-given.ensures ∙ ap (λ (d : Declaration). has_own_bounds d) (sym c.loop-k.invariant.at.declaration)
 
 pub enter-requires-clause-room : goal.enter-requires-clause-room
 enter-requires-clause-room g c =

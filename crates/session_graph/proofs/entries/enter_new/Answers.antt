@@ -21,6 +21,16 @@ clock_of-place-requires g c =
     let many = is.labels in
     omega (arith, inside, many)
 
+pub bounds_of-own-requires-clause-label : goal.bounds_of-own-requires-clause-label
+bounds_of-own-requires-clause-label g c =
+    let r = c.args.roster.now in
+    let e : Came = c.event-came.result in
+    let is = c.decl.ensures.lawful in
+    let (k, number, at) = is.every c.args.v e c.event-came.ensures in
+    let inside : e.label < length r.under = group_inside r.under e.label k c.args.v at in
+    let many = is.labels in
+    omega (arith, inside, many)
+
 pub nearest_of-nearest-requires-clause-shown : goal.nearest_of-nearest-requires-clause-shown
 nearest_of-nearest-requires-clause-shown g c = own_shown c.args.roster.now c.decl.ensures.lawful c.args.v c.event-came.result c.event-came.ensures c.args.solver.now c.requires.new c.clock_of-place.result (c.clock_of-place.ensures.is c.event-came.result.number)
 
@@ -50,16 +60,16 @@ push_entry-requires-clause-there g c =
     (entered_there c.args.roster.now c.decl.ensures.lawful c.args.v c.event-came.result c.event-came.ensures c.args.solver.now c.requires.new c.clock_of-place.result (c.clock_of-place.ensures.is c.event-came.result.number) c.is_known-known.result c.nearest_of-nearest.result c.is_known-known.ensures.known c.is_known-known.ensures.new c.nearest_of-nearest.ensures.nearest c.nearest_of-nearest.ensures.inside c.push_event.new.solver c.push_reading.new.solver c.in_ok-push_event.ensures.graph (λ k. (c.in_ok-push_reading.ensures.known k).0) c.in_ok-push_reading.ensures.graph)
 
 pub returns-clause-come : goal.returns-clause-come
-returns-clause-come g c = comes c.args.roster.now c.decl.ensures.lawful c.args.v c.event-came.result c.event-came.ensures c.args.solver.now c.requires.new c.clock_of-place.result (c.clock_of-place.ensures.is c.event-came.result.number) c.is_known-known.result c.nearest_of-nearest.result c.is_known-known.ensures.known c.is_known-known.ensures.new c.nearest_of-nearest.ensures.nearest c.nearest_of-nearest.ensures.inside c.push_event.new.solver c.push_reading.new.solver c.in_ok-push_event.ensures.graph (λ k. (c.in_ok-push_reading.ensures.known k).0) c.in_ok-push_reading.ensures.graph c.push_event.new.roster c.push_reading.new.roster c.in_ok-push_event.ensures.told (λ k. (c.in_ok-push_reading.ensures.known k).1) c.in_ok-push_reading.ensures.told c.push_entry.new.solver c.in_ok-push_entry.ensures.brings c.clock_at-clock.result c.clock_at-clock.ensures (λ p flags y. c.in_ok-push_entry.ensures.left p flags y)
+returns-clause-come g c = comes c.args.roster.now c.decl.ensures.lawful c.args.v c.event-came.result c.event-came.ensures c.args.solver.now c.requires.new c.clock_of-place.result (c.clock_of-place.ensures.is c.event-came.result.number) c.is_known-known.result c.nearest_of-nearest.result c.is_known-known.ensures.known c.is_known-known.ensures.new c.nearest_of-nearest.ensures.nearest c.nearest_of-nearest.ensures.inside c.push_event.new.solver c.push_reading.new.solver c.in_ok-push_event.ensures.graph (λ k. (c.in_ok-push_reading.ensures.known k).0) c.in_ok-push_reading.ensures.graph c.push_event.new.roster c.push_reading.new.roster c.in_ok-push_event.ensures.told (λ k. (c.in_ok-push_reading.ensures.known k).1) c.in_ok-push_reading.ensures.told c.push_entry.new.solver c.in_ok-push_entry.ensures.brings c.clock_at-clock.result c.clock_at-clock.ensures c.bounds_of-own.result (c.bounds_of-own.ensures c.event-came.result.number) (λ p flags y. c.in_ok-push_entry.ensures.left p flags y)
 
 pub returns-clause-entered : goal.returns-clause-entered
-returns-clause-entered g c = stands c.args.roster.now c.decl.ensures.lawful c.args.v c.event-came.result c.event-came.ensures c.args.solver.now c.requires.new c.clock_of-place.result (c.clock_of-place.ensures.is c.event-came.result.number) c.is_known-known.result c.nearest_of-nearest.result c.is_known-known.ensures.known c.is_known-known.ensures.new c.nearest_of-nearest.ensures.nearest c.nearest_of-nearest.ensures.inside c.push_event.new.solver c.push_reading.new.solver c.in_ok-push_event.ensures.graph (λ k. (c.in_ok-push_reading.ensures.known k).0) c.in_ok-push_reading.ensures.graph c.push_event.new.roster c.push_reading.new.roster c.in_ok-push_event.ensures.told (λ k. (c.in_ok-push_reading.ensures.known k).1) c.in_ok-push_reading.ensures.told c.push_entry.new.solver c.in_ok-push_entry.ensures.brings c.clock_at-clock.result c.clock_at-clock.ensures (λ p flags y. c.in_ok-push_entry.ensures.left p flags y)
+returns-clause-entered g c = stands c.args.roster.now c.decl.ensures.lawful c.args.v c.event-came.result c.event-came.ensures c.args.solver.now c.requires.new c.clock_of-place.result (c.clock_of-place.ensures.is c.event-came.result.number) c.is_known-known.result c.nearest_of-nearest.result c.is_known-known.ensures.known c.is_known-known.ensures.new c.nearest_of-nearest.ensures.nearest c.nearest_of-nearest.ensures.inside c.push_event.new.solver c.push_reading.new.solver c.in_ok-push_event.ensures.graph (λ k. (c.in_ok-push_reading.ensures.known k).0) c.in_ok-push_reading.ensures.graph c.push_event.new.roster c.push_reading.new.roster c.in_ok-push_event.ensures.told (λ k. (c.in_ok-push_reading.ensures.known k).1) c.in_ok-push_reading.ensures.told c.push_entry.new.solver c.in_ok-push_entry.ensures.brings c.clock_at-clock.result c.clock_at-clock.ensures c.bounds_of-own.result (c.bounds_of-own.ensures c.event-came.result.number) (λ p flags y. c.in_ok-push_entry.ensures.left p flags y)
 
 pub returns-clause-nodes : goal.returns-clause-nodes
-returns-clause-nodes g c = nodes_few c.args.roster.now c.decl.ensures.lawful c.args.v c.event-came.result c.event-came.ensures c.args.solver.now c.requires.new c.clock_of-place.result (c.clock_of-place.ensures.is c.event-came.result.number) c.is_known-known.result c.nearest_of-nearest.result c.is_known-known.ensures.known c.is_known-known.ensures.new c.nearest_of-nearest.ensures.nearest c.nearest_of-nearest.ensures.inside c.push_event.new.solver c.push_reading.new.solver c.in_ok-push_event.ensures.graph (λ k. (c.in_ok-push_reading.ensures.known k).0) c.in_ok-push_reading.ensures.graph c.push_event.new.roster c.push_reading.new.roster c.in_ok-push_event.ensures.told (λ k. (c.in_ok-push_reading.ensures.known k).1) c.in_ok-push_reading.ensures.told c.push_entry.new.solver c.in_ok-push_entry.ensures.brings c.clock_at-clock.result c.clock_at-clock.ensures (λ p flags y. c.in_ok-push_entry.ensures.left p flags y)
+returns-clause-nodes g c = nodes_few c.args.roster.now c.decl.ensures.lawful c.args.v c.event-came.result c.event-came.ensures c.args.solver.now c.requires.new c.clock_of-place.result (c.clock_of-place.ensures.is c.event-came.result.number) c.is_known-known.result c.nearest_of-nearest.result c.is_known-known.ensures.known c.is_known-known.ensures.new c.nearest_of-nearest.ensures.nearest c.nearest_of-nearest.ensures.inside c.push_event.new.solver c.push_reading.new.solver c.in_ok-push_event.ensures.graph (λ k. (c.in_ok-push_reading.ensures.known k).0) c.in_ok-push_reading.ensures.graph c.push_event.new.roster c.push_reading.new.roster c.in_ok-push_event.ensures.told (λ k. (c.in_ok-push_reading.ensures.known k).1) c.in_ok-push_reading.ensures.told c.push_entry.new.solver c.in_ok-push_entry.ensures.brings c.clock_at-clock.result c.clock_at-clock.ensures c.bounds_of-own.result (c.bounds_of-own.ensures c.event-came.result.number) (λ p flags y. c.in_ok-push_entry.ensures.left p flags y)
 
 pub returns-clause-arcs : goal.returns-clause-arcs
-returns-clause-arcs g c = arcs_few c.args.roster.now c.decl.ensures.lawful c.args.v c.event-came.result c.event-came.ensures c.args.solver.now c.requires.new c.clock_of-place.result (c.clock_of-place.ensures.is c.event-came.result.number) c.is_known-known.result c.nearest_of-nearest.result c.is_known-known.ensures.known c.is_known-known.ensures.new c.nearest_of-nearest.ensures.nearest c.nearest_of-nearest.ensures.inside c.push_event.new.solver c.push_reading.new.solver c.in_ok-push_event.ensures.graph (λ k. (c.in_ok-push_reading.ensures.known k).0) c.in_ok-push_reading.ensures.graph c.push_event.new.roster c.push_reading.new.roster c.in_ok-push_event.ensures.told (λ k. (c.in_ok-push_reading.ensures.known k).1) c.in_ok-push_reading.ensures.told c.push_entry.new.solver c.in_ok-push_entry.ensures.brings c.clock_at-clock.result c.clock_at-clock.ensures (λ p flags y. c.in_ok-push_entry.ensures.left p flags y)
+returns-clause-arcs g c = arcs_few c.args.roster.now c.decl.ensures.lawful c.args.v c.event-came.result c.event-came.ensures c.args.solver.now c.requires.new c.clock_of-place.result (c.clock_of-place.ensures.is c.event-came.result.number) c.is_known-known.result c.nearest_of-nearest.result c.is_known-known.ensures.known c.is_known-known.ensures.new c.nearest_of-nearest.ensures.nearest c.nearest_of-nearest.ensures.inside c.push_event.new.solver c.push_reading.new.solver c.in_ok-push_event.ensures.graph (λ k. (c.in_ok-push_reading.ensures.known k).0) c.in_ok-push_reading.ensures.graph c.push_event.new.roster c.push_reading.new.roster c.in_ok-push_event.ensures.told (λ k. (c.in_ok-push_reading.ensures.known k).1) c.in_ok-push_reading.ensures.told c.push_entry.new.solver c.in_ok-push_entry.ensures.brings c.clock_at-clock.result c.clock_at-clock.ensures c.bounds_of-own.result (c.bounds_of-own.ensures c.event-came.result.number) (λ p flags y. c.in_ok-push_entry.ensures.left p flags y)
 
 pub returns-clause-steps : goal.returns-clause-steps
 returns-clause-steps g c =

@@ -29,9 +29,9 @@ returns-clause-brings g c =
     brings_then (bounds_beside c.args.reading.now.place c.args.reading.now.stamp c.args.nearest.now) own c.args.solver.now c.push_links.new.solver c.push_stamp.new.solver c.in_ok-push_links.ensures.brings c.in_ok-push_stamp.ensures.brings
 
 pub returns-clause-left : goal.returns-clause-left
-returns-clause-left g c = λ p entered event on is stamped clock follows beside left.
+returns-clause-left g c = λ p entered event on is stamped bounded clock follows beside left.
     let own : List Bound = Late c.args.v ∷ Early c.args.v ∷ [] in
-    c.in_ok-push_stamp.ensures.left p entered [] event on is stamped clock (c.in_ok-push_links.ensures.left p entered own clock follows beside left)
+    c.in_ok-push_stamp.ensures.left p entered [] event on is stamped bounded clock (c.in_ok-push_links.ensures.left p entered own clock follows beside left)
 
 pub returns-clause-steps : goal.returns-clause-steps
 returns-clause-steps g c =

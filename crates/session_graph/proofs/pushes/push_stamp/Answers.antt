@@ -20,6 +20,6 @@ returns-clause-brings g c = on_ok c.push_arcs.result c.push_arcs.ensures.brings 
     subst (λ (bs : List Bound). Brings bs c.args.solver.now c.push_arcs.new.solver) c.stamp_arcs-arcs.ensures.named brings)
 
 pub returns-clause-left : goal.returns-clause-left
-returns-clause-left g c = on_ok c.push_arcs.result c.push_arcs.ensures.left (λ left p entered rest e event on is clock growing.
-    left p entered rest (c.stamp_arcs-arcs.ensures.declared p c.args.solver.now.graph.nodes (c.number_of-first.ensures, c.number_of-second.ensures) (e, event, on, is, clock))
+returns-clause-left g c = on_ok c.push_arcs.result c.push_arcs.ensures.left (λ left p entered rest e event on is bounded clock growing.
+    left p entered rest (c.stamp_arcs-arcs.ensures.declared p c.args.solver.now.graph.nodes (c.number_of-first.ensures, c.number_of-second.ensures) (e, event, on, is, bounded, clock))
     (subst (λ (bs : List Bound). IsGrowing p entered (bs ++ rest) c.args.solver.now.graph) (sym c.stamp_arcs-arcs.ensures.named) growing))

@@ -1,7 +1,7 @@
 use Rattle.std.proofs.Common.{◌≡◌, []}
 use Rattle.decl.specs.Declaration.{declaration_of}
 use Rattle.traces.proofs.Follows.{follows_before}
-use Rattle.problem_text.proofs.roster_problem.version_of.Given as goal
+use Rattle.problem_text.proofs.roster_problem.plain_version.Given as goal
 
 -- there is no follow from a place before
 abbrev pub invariant-loop-place : goal.invariant-loop-place
