@@ -78,7 +78,7 @@ module _ (p : ProblemLists) (clock : ℕ) (c : Clock) (at : ClockAt p clock c) (
 
 -- ---- the line
 module _ (p : ProblemLists) (clock stamp event : ℕ) (keeps : KeepsTime p clock) (reads : IsReading p clock stamp) where
-  by_each : (e : Ends) → AreEndsOf p (time_by clock stamp (nodes.Event event)) e → (other : ℕ) → IsReading p clock other → AreEndsOf p (time_by clock other (nodes.Event event)) e
+  pub by_each : (e : Ends) → AreEndsOf p (time_by clock stamp (nodes.Event event)) e → (other : ℕ) → IsReading p clock other → AreEndsOf p (time_by clock other (nodes.Event event)) e
   by_each e are other reads' =
       ends_same p (time_by clock stamp (nodes.Event event)) (time_by clock other (nodes.Event event))
       (λ x execution. one_time p clock keeps.0 keeps.1 keeps.2 keeps.3 x execution (nodes.Event event) stamp other reads reads') e are

@@ -4,6 +4,6 @@ pub mod ContradictionTexts
 pub mod Hands
 pub mod Consistency
 mod OneReply
-mod KeptTimes
+pub mod KeptTimes
 pub mod ListedAnswers
 pub mod ListedPairs

@@ -26,7 +26,7 @@ mod time;
 pub use comparison::{Asked, Comparison};
 pub use consistent::is_consistent;
 pub use contradiction::write_contradiction;
-pub use lines::order_word;
+pub use lines::{ends_line, order_word};
 pub use prove::write_proof;
 pub use reply::write_comparison;
 pub use reply_laws::replies_are_one;

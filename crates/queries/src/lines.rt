@@ -26,9 +26,9 @@ fn push_end(line: &mut Line, end: End, unlimited: &[u8])
     }
 }
 
-// The line of both ends behind its first word.
-fn ends_line(first: &[u8], ends: &Ends) -> Line
-    requires { length first.now ≤ 10 }
+/// The line of both ends, in units of 1e-9 ns, behind its first word of at most 48 bytes.
+pub fn ends_line(first: &[u8], ends: &Ends) -> Line
+    requires { length first.now ≤ 48 }
     ensures { result.items ≡ line_of (first.now ∷ end_word (codes "-inf") ends.now.least ∷ end_word (codes "+inf") ends.now.greatest ∷ []) }
 {
     let mut line = first_word(first);

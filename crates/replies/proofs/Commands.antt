@@ -2,15 +2,17 @@
 use Rattle.std.proofs.Common.{◌≡◌, inl, inr, List, ℕ, [], ◌∷◌, Option, Some, None, cond, codes, refl}
 use Rattle.std.specs.Str.{bytes_eq}
 use Rattle.queries.specs.declared.comparison.Asked.TheVariants as asked
-use Rattle.replies.specs.Commands.{Command, Add, Keep, Ask, Question, Compare, Time, Merge, Prove, Problem, Report, Blame, command_words, IsReadOff}
+use Rattle.replies.specs.Commands.{Command, Add, Keep, Ask, Question, Compare, Time, AllTimes, Merge, Prove, Problem, Report, Blame, command_words, IsReadOff}
 
 -- the command that has these words
 abbrev pub command_of : List (List ℕ) → Option Command
 command_of [] = None
 command_of (name ∷ []) =
-    cond (bytes_eq name (codes "merge")) (Some (Ask Merge)) (cond (bytes_eq name (codes "problem")) (Some (Ask Problem))
-    (cond (bytes_eq name (codes "report")) (Some (Ask Report)) (cond (bytes_eq name (codes "blame")) (Some (Ask Blame)) None)))
-command_of (name ∷ event ∷ []) = cond (bytes_eq name (codes "time")) (Some (Ask (Time event))) (Some (Keep event))
+    cond (bytes_eq name (codes "times")) (Some (Ask (AllTimes None))) (cond (bytes_eq name (codes "merge")) (Some (Ask Merge))
+    (cond (bytes_eq name (codes "problem")) (Some (Ask Problem)) (cond (bytes_eq name (codes "report")) (Some (Ask Report))
+    (cond (bytes_eq name (codes "blame")) (Some (Ask Blame)) None))))
+command_of (name ∷ event ∷ []) =
+    cond (bytes_eq name (codes "time")) (Some (Ask (Time event))) (cond (bytes_eq name (codes "times")) (Some (Ask (AllTimes (Some event)))) (Some (Keep event)))
 command_of (name ∷ first ∷ second ∷ []) =
     cond (bytes_eq name (codes "add")) (Some (Add first second)) (cond (bytes_eq name (codes "interval")) (Some (Ask (Compare asked.Interval first second)))
     (cond (bytes_eq name (codes "order")) (Some (Ask (Compare asked.Order first second))) (Some (Ask (Prove first second)))))
@@ -22,6 +24,8 @@ words_tell (Keep event) = refl
 words_tell (Ask (Compare asked.Interval first second)) = refl
 words_tell (Ask (Compare asked.Order first second)) = refl
 words_tell (Ask (Time event)) = refl
+words_tell (Ask (AllTimes None)) = refl
+words_tell (Ask (AllTimes (Some event))) = refl
 words_tell (Ask Merge) = refl
 words_tell (Ask (Prove first second)) = refl
 words_tell (Ask Problem) = refl
@@ -34,6 +38,8 @@ module _ (Has Other : List ℕ → Type 0) (each : (name : List ℕ) → Has nam
   read_off (Compare what first second) (inl has) = inl (each first has)
   read_off (Compare what first second) (inr has) = inr (each second has)
   read_off (Time event) is = tt
+  read_off (AllTimes None) is = tt
+  read_off (AllTimes (Some event)) is = each event is
   read_off Merge is = tt
   read_off (Prove first second) is = each first is
   read_off Problem is = tt

@@ -12,6 +12,15 @@ there_some [] k inside = absurd (omega (arith, inside))
 there_some (x ∷ xs) zero inside = (x, refl)
 there_some (x ∷ xs) (suc k) inside = there_some xs k (omega (arith, inside))
 
+-- two lists of as many elements, of which those at each place are one, are one
+pub lists_same : {A : Type 0} (xs ys : List A) → length xs ≡ length ys → ((k : ℕ) (x y : A) → slice_get xs k ≡ Some x → slice_get ys k ≡ Some y → x ≡ y) → xs ≡ ys
+lists_same [] [] long each = refl
+lists_same [] (y ∷ ys) long each = absurd (omega (arith, long))
+lists_same (x ∷ xs) [] long each = absurd (omega (arith, long))
+lists_same {A} (x ∷ xs) (y ∷ ys) long each =
+    let tail : xs ≡ ys = lists_same xs ys (omega (arith, long)) (λ k. each (suc k)) in
+    ap (λ (z : A). z ∷ xs) (each 0 x y refl refl) ∙ ap (λ (zs : List A). y ∷ zs) tail
+
 -- the place is the one that was set, or what stands there stood there
 pub set_or_same : {A : Type 0} (xs : List A) (k j : ℕ) (x y : A) → slice_get (slice_set xs k x) j ≡ Some y → ((j ≡ k) × (y ≡ x)) ⊎ ((j ≢ k) × (slice_get xs j ≡ Some y))
 set_or_same [] k j x y e = absurd cc

@@ -14,6 +14,7 @@ mod FoundReads
 mod WholeScripts
 pub mod OneReply
 mod OneOrder
+mod OneTimes
 mod Agreeing
 mod Texts
 mod Stopping

@@ -1,5 +1,5 @@
 -- A line has one reply, but for which contradiction and which path of bounds is printed.
-use Rattle.std.proofs.Common.{◌≡◌, ◌≢◌, ◌⊎◌, inl, inr, ℕ, suc, ◌+◌, ◌-◌, ◌<◌, List, [], ◌∷◌, ◌++◌, length, map, slice_get, slice_set, Option, Some, None, Bool, true, false, nat_le, MatchBool, refl, sym, ◌∙◌, ap, subst, arith}
+use Rattle.std.proofs.Common.{◌≡◌, ◌≢◌, ◌⊎◌, inl, inr, ℕ, suc, ◌+◌, ◌<◌, List, [], ◌∷◌, ◌++◌, length, map, slice_get, slice_set, Option, Some, None, Bool, true, false, nat_le, MatchBool, refl, sym, ◌∙◌, ap, subst, arith}
 use Rattle.std.proofs.lemmas.List.{length-map}
 use Rattle.std.proofs.lemmas.Option.{slice_get_within}
 use Rattle.ports.specs.Files.{Content}
@@ -32,13 +32,14 @@ use Rattle.queries.specs.declared.comparison.Asked.TheVariants as questions
 use Rattle.queries.specs.Replies.{HasReading, IsIntervalLine, IsOrderLine, IsComparisonLine, IsProofText, IsTimeLine, Replies}
 use Rattle.widen.specs.Blame.{IsBlameText}
 use Rattle.replies.specs.Merged.{IsMergeText}
+use Rattle.replies.specs.AllTimes.{AreTimesBy, AreEndsSince, IsTimesText}
 use Rattle.report.specs.Reports.{report_text}
 use Rattle.replies.specs.declared.outcome.Aside.{Aside}
 use Rattle.replies.specs.declared.refusal.Refusal.{Refusal}
 use Rattle.replies.specs.declared.refusal.Refusal.TheVariants.{NoCommand, UnknownLabel, UnreadFile, TooManyBytes, TooManyEvents}
 use Rattle.replies.specs.Refusals.{log_refusal, capture_refusal}
-use Rattle.replies.specs.Commands.{Command, Add, Keep, Ask, Question, Compare, Time, Merge, Prove, Problem, Report, Blame, Asks}
-use Rattle.replies.specs.Reply.{State, Found, Unread, Bytes, Absent, Failed, Refuses, OfTwo, OfOne, IsTimeReply, IsReport, IsAnswerTo, added_line, added_by, count_by, IsAdded, aside_of, AcceptReply, with_rows, IsLogRefusal, LogReply, bytes_of, IsCaptureRefusal, CaptureReply, KindReply, fits_label, PieceReply, label_at, AddReply, IsPlacedAt, kept_line, SlotReply, KeepReply, Reply, AreKept}
+use Rattle.replies.specs.Commands.{Command, Add, Keep, Ask, Question, Compare, Time, AllTimes, Merge, Prove, Problem, Report, Blame, Asks}
+use Rattle.replies.specs.Reply.{State, Found, Unread, Bytes, Absent, Failed, Refuses, OfTwo, OfOne, OfSource, IsTimeReply, IsTimesReply, IsSinceText, IsReport, IsAnswerTo, added_line, added_by, count_by, IsAdded, aside_of, AcceptReply, with_rows, IsLogRefusal, LogReply, bytes_of, IsCaptureRefusal, CaptureReply, KindReply, fits_label, PieceReply, label_at, AddReply, IsPlacedAt, kept_line, SlotReply, KeepReply, Reply, AreKept}
 use Rattle.replies.specs.Sessions.{CommandReply, LineReply}
 use Rattle.replies.specs.OneReply.{IsState, AreContradictions, MayDiffer, LineMayDiffer}
 use Rattle.replies.proofs.Elements.{some_same}
@@ -53,6 +54,8 @@ pub record Below : Type 0 where
   pub interval : (p : ProblemLists) (from to : ℕ) (a b : List ℕ) → IsIntervalLine p from to a → IsIntervalLine p from to b → a ≡ b
   pub order : (p : ProblemLists) (from to : ℕ) (a b : List ℕ) → ((x : Times) × IsExecution p x) → IsOrderLine p from to a → IsOrderLine p from to b → a ≡ b
   pub time : (p : ProblemLists) (clock event : ℕ) (a b : List ℕ) → HasReading p clock → IsTimeLine p clock event a → IsTimeLine p clock event b → a ≡ b
+  pub times : (p : ProblemLists) (clock : ℕ) (a b : List ℕ) → HasReading p clock → IsTimesText p (AreTimesBy p clock) a → IsTimesText p (AreTimesBy p clock) b → a ≡ b
+  pub since : (p : ProblemLists) (first : ℕ) (a b : List ℕ) → IsTimesText p (AreEndsSince p first) a → IsTimesText p (AreEndsSince p first) b → a ≡ b
   pub merge : (d : Declaration) (seen : List (List Seen)) (a b : List ℕ) → IsMergeText d seen a → IsMergeText d seen b → a ≡ b
   pub blame : (p : ProblemLists) (a b : List ℕ) → IsBlameText p a → IsBlameText p b → a ≡ b
   pub capture : (s : List ℕ) (a b : captures.Capture) → Reads s a → Reads s b → a ≡ b
@@ -160,6 +163,15 @@ one_of_one p Differ event Says lawful one a b (inl (i, at, x)) (inr (none, y)) =
 one_of_one p Differ event Says lawful one a b (inr (none, x)) (inl (i, at, y)) = absurd (none i at)
 one_of_one p Differ event Says lawful one a b (inr (none, x)) (inr (none', y)) = inl (x ∙ sym y)
 
+one_of_source : (p : ProblemLists) (source : Option ℕ) (Says : ℕ → List ℕ → Type 0) → ((clock : ℕ) (a b : List ℕ) → HasReading p clock → Says clock a → Says clock b → a ≡ b) →
+    (a b : List ℕ) → OfSource p source Says a → OfSource p source Says b → AreSame (AreContradictions p) a b
+one_of_source p None Says one a b x y = inl (x ∙ sym y)
+one_of_source p (Some clock) Says one a b (inl (has, x)) (inl (has', y)) =
+    one_answer p (AreContradictions p) (Says clock) a b (λ first second are. are) (λ first second some is is'. inl (one clock first second has is is')) x y
+one_of_source p (Some clock) Says one a b (inl (has, x)) (inr (none, y)) = absurd (none has)
+one_of_source p (Some clock) Says one a b (inr (none, x)) (inl (has, y)) = absurd (none has)
+one_of_source p (Some clock) Says one a b (inr (none, x)) (inr (none', y)) = inl (x ∙ sym y)
+
 one_report : (d : Declaration) (seen : List (List Seen)) (missed : List Missed) (a b : List ℕ) → IsReport d seen missed a → IsReport d seen missed b → a ≡ b
 one_report d seen missed a b (x, is_x, is) (y, is_y, is') = is ∙ ap (λ (consistent : Bool). report_text d seen missed consistent) (one_state (problem_of_seen d seen) x y is_x is_y) ∙ sym is'
 
@@ -261,12 +273,13 @@ module _ (below : Below) where
 
   -- ---- times
   one_time : (p : ProblemLists) (source : Option ℕ) (i : ℕ) (a b : List ℕ) → IsTimeReply p source i a → IsTimeReply p source i b → AreSame (AreContradictions p) a b
-  one_time p None i a b x y = inl (x ∙ sym y)
-  one_time p (Some clock) i a b (inl (has, x)) (inl (has', y)) =
-      one_answer p (AreContradictions p) (IsTimeLine p clock i) a b (λ one two are. are) (λ one two some is is'. inl (below.time p clock i one two has is is')) x y
-  one_time p (Some clock) i a b (inl (has, x)) (inr (none, y)) = absurd (none has)
-  one_time p (Some clock) i a b (inr (none, x)) (inl (has, y)) = absurd (none has)
-  one_time p (Some clock) i a b (inr (none, x)) (inr (none', y)) = inl (x ∙ sym y)
+  one_time p source i = one_of_source p source (λ clock. IsTimeLine p clock i) (λ clock. below.time p clock i)
+
+  one_times : (p : ProblemLists) (source : Option ℕ) (a b : List ℕ) → IsTimesReply p source a → IsTimesReply p source b → AreSame (AreContradictions p) a b
+  one_times p source = one_of_source p source (λ clock. IsTimesText p (AreTimesBy p clock)) (below.times p)
+
+  one_since : (p : ProblemLists) (i : ℕ) (a b : List ℕ) → IsSinceText p i a → IsSinceText p i b → AreSame (AreContradictions p) a b
+  one_since p i a b = one_answer p (AreContradictions p) (IsTimesText p (AreEndsSince p i)) a b (λ first second are. are) (λ first second some is is'. inl (below.since p i first second is is'))
 
   -- ---- questions
   one_compared : (what : Asked) (p : ProblemLists) (i j : ℕ) (a b : List ℕ) → ((x : Times) × IsExecution p x) → IsComparisonLine what p i j a → IsComparisonLine what p i j b → a ≡ b
@@ -281,6 +294,10 @@ module _ (below : Below) where
   one_answer_to (Time event) d seen missed lawful a b x y =
       let p = problem_of_seen d seen in
       one_of_one p (AreContradictions p) event (IsTimeReply p d.source) lawful (one_time p d.source) a b x y
+  one_answer_to (AllTimes None) d seen missed lawful a b x y = one_times (problem_of_seen d seen) d.source a b x y
+  one_answer_to (AllTimes (Some event)) d seen missed lawful a b x y =
+      let p = problem_of_seen d seen in
+      one_of_one p (AreContradictions p) event (IsSinceText p) lawful (one_since p) a b x y
   one_answer_to Merge d seen missed lawful a b x y =
       let p = problem_of_seen d seen in
       one_answer p (AreContradictions p) (IsMergeText d seen) a b (λ one two are. are) (λ one two some is is'. inl (below.merge d seen one two is is')) x y

@@ -13,6 +13,7 @@ use Rattle.replies.specs.declared.command.Question.TheVariants as questions
 pub data Question : Type 0 where
   Compare : Asked → List ℕ → List ℕ → Question
   Time : List ℕ → Question
+  AllTimes : Option (List ℕ) → Question
   Merge : Question
   Prove : List ℕ → List ℕ → Question
   Problem : Question
@@ -41,6 +42,8 @@ command_words (Add label path) = codes "add" ∷ label ∷ path ∷ []
 command_words (Keep event) = codes "keep" ∷ event ∷ []
 command_words (Ask (Compare what first second)) = asked_word what ∷ first ∷ second ∷ []
 command_words (Ask (Time event)) = codes "time" ∷ event ∷ []
+command_words (Ask (AllTimes None)) = codes "times" ∷ []
+command_words (Ask (AllTimes (Some event))) = codes "times" ∷ event ∷ []
 command_words (Ask Merge) = codes "merge" ∷ []
 command_words (Ask (Prove first second)) = codes "prove" ∷ first ∷ second ∷ []
 command_words (Ask Problem) = codes "problem" ∷ []
@@ -63,6 +66,7 @@ TakesMemory (Add label path) = ⊤
 TakesMemory (Keep event) = ⊤
 TakesMemory (Ask (Compare what first second)) = ⊥
 TakesMemory (Ask (Time event)) = ⊥
+TakesMemory (Ask (AllTimes since)) = ⊥
 TakesMemory (Ask Merge) = ⊤
 TakesMemory (Ask (Prove first second)) = ⊥
 TakesMemory (Ask Problem) = ⊥
@@ -77,6 +81,8 @@ AsksForMemory line = (c : Command) × Asks line (Some c) × TakesMemory c
 abbrev pub IsReadOff : (List ℕ → Type 0) → Question → Type 0
 IsReadOff HasRows (Compare what first second) = HasRows first ⊎ HasRows second
 IsReadOff HasRows (Time event) = ⊤
+IsReadOff HasRows (AllTimes None) = ⊤
+IsReadOff HasRows (AllTimes (Some event)) = HasRows event
 IsReadOff HasRows Merge = ⊤
 IsReadOff HasRows (Prove first second) = HasRows first
 IsReadOff HasRows Problem = ⊤
@@ -88,6 +94,8 @@ IsReadOff HasRows Blame = ⊥
 abbrev pub question_seen : asking.Question → Question
 question_seen (questions.Compare what first second) = Compare what first.now second.now
 question_seen (questions.Time event) = Time event.now
+question_seen (questions.Times None) = AllTimes None
+question_seen (questions.Times (Some event)) = AllTimes (Some event.now)
 question_seen questions.Merge = Merge
 question_seen (questions.Prove first second) = Prove first.now second.now
 question_seen questions.Problem = Problem

@@ -7,4 +7,5 @@ pub mod OneProof
 pub mod OneReply
 pub mod Lawful
 pub mod Merged
+pub mod AllTimes
 pub mod Writing

@@ -9,7 +9,7 @@ use Rattle.decl.specs.Declaration.{Declaration}
 use Rattle.traces.specs.Traces.{Trace, IsOfKind, seen_by}
 use Rattle.traces.specs.Making.{StampsFit}
 use Rattle.queries.specs.Replies.{IsContradictionText}
-use Rattle.replies.specs.Commands.{Command, Add, Keep, Ask, Compare, Time, Merge, Prove, Problem, Report, Blame, Asks}
+use Rattle.replies.specs.Commands.{Command, Add, Keep, Ask, Compare, Time, AllTimes, Merge, Prove, Problem, Report, Blame, Asks}
 use Rattle.replies.specs.Reply.{State, count_by, AreKept}
 use Rattle.replies.specs.OneProof.{AreOneProof}
 
@@ -38,6 +38,7 @@ MayDiffer p (Add label path) a b = ⊥
 MayDiffer p (Keep event) a b = ⊥
 MayDiffer p (Ask (Compare what first second)) a b = AreContradictions p a b
 MayDiffer p (Ask (Time event)) a b = AreContradictions p a b
+MayDiffer p (Ask (AllTimes since)) a b = AreContradictions p a b
 MayDiffer p (Ask Merge) a b = AreContradictions p a b
 MayDiffer p (Ask (Prove first second)) a b = AreContradictions p a b ⊎ AreProofs p first second a b
 MayDiffer p (Ask Problem) a b = ⊥

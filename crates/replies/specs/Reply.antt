@@ -26,13 +26,14 @@ use Rattle.queries.specs.Consistent.{IsConsistent}
 use Rattle.widen.specs.Blame.{IsBlameText}
 use Rattle.queries.specs.Replies.{HasReading, IsComparisonLine, IsProofText, IsTimeLine, Replies}
 use Rattle.replies.specs.Merged.{IsMergeText}
+use Rattle.replies.specs.AllTimes.{AreTimesBy, AreEndsSince, IsTimesText}
 use Rattle.report.specs.Reports.{report_text}
 use Rattle.replies.specs.declared.outcome.Added.{Added}
 use Rattle.replies.specs.declared.outcome.Aside.{Aside}
 use Rattle.replies.specs.declared.refusal.Refusal.{Refusal}
 use Rattle.replies.specs.declared.refusal.Refusal.TheVariants.{UnknownLabel, UnreadFile, TooManyBytes, TooManyEvents, UnknownEvent, NoSourceTime, EightAreKept}
 use Rattle.replies.specs.Refusals.{refusal_line, log_refusal, capture_refusal}
-use Rattle.replies.specs.Commands.{Command, Add, Keep, Ask, Question, Compare, Time, Merge, Prove, Problem, Report, Blame}
+use Rattle.replies.specs.Commands.{Command, Add, Keep, Ask, Question, Compare, Time, AllTimes, Merge, Prove, Problem, Report, Blame}
 
 -- what a session has: the traces, and the events that are kept
 pub record State : Type 0 where
@@ -66,11 +67,23 @@ OfTwo p first second Says text =
 abbrev pub OfOne : ProblemLists → List ℕ → (ℕ → List ℕ → Type 0) → List ℕ → Type 0
 OfOne p event Says text = ((i : ℕ) × HasEvent p i event × Says i text) ⊎ (IsUnknown p event × (text ≡ refusal_line UnknownEvent))
 
--- the time of an event by the source's clock, or the refusal where no source is declared or its clock has no reading
-abbrev pub IsTimeReply : ProblemLists → Option ℕ → ℕ → List ℕ → Type 0
-IsTimeReply p None event text = text ≡ refusal_line NoSourceTime
-IsTimeReply p (Some clock) event text = (HasReading p clock × Replies p (IsTimeLine p clock event) text)
+-- what is said by the source's clock, or the refusal where no source is declared or its clock has no reading
+abbrev pub OfSource : ProblemLists → Option ℕ → (ℕ → List ℕ → Type 0) → List ℕ → Type 0
+OfSource p None Says text = text ≡ refusal_line NoSourceTime
+OfSource p (Some clock) Says text = (HasReading p clock × Replies p (Says clock) text)
     ⊎ ((HasReading p clock → ⊥) × (text ≡ refusal_line NoSourceTime))
+
+-- the time of an event by the source's clock
+abbrev pub IsTimeReply : ProblemLists → Option ℕ → ℕ → List ℕ → Type 0
+IsTimeReply p source event = OfSource p source (λ clock. IsTimeLine p clock event)
+
+-- the times of all events by the source's clock
+abbrev pub IsTimesReply : ProblemLists → Option ℕ → List ℕ → Type 0
+IsTimesReply p source = OfSource p source (λ clock. IsTimesText p (AreTimesBy p clock))
+
+-- the real time from an event to each one
+abbrev pub IsSinceText : ProblemLists → ℕ → List ℕ → Type 0
+IsSinceText p first text = Replies p (IsTimesText p (AreEndsSince p first)) text
 
 -- the report on the events of all labels and on the packets under each that have none, by whether the problem of the events
 -- has an execution
@@ -81,6 +94,8 @@ IsReport d seen missed text = (b : Bool) × IsConsistent (problem_of_seen d seen
 abbrev pub IsAnswerTo : Question → Declaration → List (List Seen) → List Missed → List ℕ → Type 0
 IsAnswerTo (Compare what first second) d seen missed = let p = problem_of_seen d seen in OfTwo p first second (IsComparisonLine what p)
 IsAnswerTo (Time event) d seen missed = let p = problem_of_seen d seen in OfOne p event (IsTimeReply p d.source)
+IsAnswerTo (AllTimes None) d seen missed = IsTimesReply (problem_of_seen d seen) d.source
+IsAnswerTo (AllTimes (Some event)) d seen missed = let p = problem_of_seen d seen in OfOne p event (IsSinceText p)
 IsAnswerTo Merge d seen missed = Replies (problem_of_seen d seen) (IsMergeText d seen)
 IsAnswerTo (Prove first second) d seen missed = let p = problem_of_seen d seen in OfTwo p first second (IsProofText p)
 IsAnswerTo Problem d seen missed = λ text. text ≡ problem_text (problem_of_seen d seen)

@@ -24,6 +24,11 @@ pub enum Question<'a> {
         /// The name of the event.
         event: &'a [u8],
     },
+    /// The times of all events by the source's clock; or the real time from one event to each.
+    Times {
+        /// The name of the event that the real time is measured from; None where times by the source's clock are asked for.
+        since: Option<&'a [u8]>,
+    },
     /// All events in one order.
     Merge,
     /// The certificate of the interval of the real time from one event to another.
@@ -128,6 +133,8 @@ fn command_of_two<'a>(name: &[u8], event: &'a [u8]) -> Option<Command<'a>>
     }
     if name == b"time".as_slice() {
         Some(Command::Ask(Question::Time { event }))
+    } else if name == b"times".as_slice() {
+        Some(Command::Ask(Question::Times { since: Some(event) }))
     } else if name == b"keep".as_slice() {
         Some(Command::Keep { event })
     } else {
@@ -139,7 +146,9 @@ fn command_of_two<'a>(name: &[u8], event: &'a [u8]) -> Option<Command<'a>>
 fn command_of_one(name: &[u8]) -> Option<Command<'_>>
     ensures { HasWords (name.now ∷ []) (option_map command_seen result) }
 {
-    if name == b"merge".as_slice() {
+    if name == b"times".as_slice() {
+        Some(Command::Ask(Question::Times { since: None }))
+    } else if name == b"merge".as_slice() {
         Some(Command::Ask(Question::Merge))
     } else if name == b"problem".as_slice() {
         Some(Command::Ask(Question::Problem))

@@ -13,7 +13,7 @@ ghost use Rattle.replies.specs.OneProof.{AreOneProof};
 ghost use Rattle.replies.specs.OneReply.{IsState, AreOneReply};
 ghost use Rattle.replies.specs.Lawful.{FindsBytes, IsLawful, HoldBytes, NoneFailed, AreOneOutput};
 
-use crate::merges_are_one;
+use crate::{merges_are_one, times_are_one};
 use captures::{
     captures_are_one, faults_are_one, nothing_reads, old_packets_stay, refused_or_read,
 };
@@ -33,8 +33,8 @@ pub fn proofs_are_one()
 
 /// A law, which does nothing when it runs: what was declared and accepted, a line and what its read came to make one
 /// reply, but for which contradiction and which path of bounds is printed, and one state that follows. Contradictions
-/// are printed for `interval`, `order`, `time`, `merge` and `prove` alone, where no execution exists, and paths for
-/// `prove` alone.
+/// are printed for `interval`, `order`, `time`, `times`, `merge` and `prove` alone, where no execution exists, and paths
+/// for `prove` alone.
 pub fn replies_are_one()
     ensures text { (d : Declaration) (files : Content) (s after other : State) (line a b : List ℕ) (found : Found) → IsDeclaration d → IsState d s → LineReply d files s line found a after → LineReply d files s line found b other → AreOneReply (problem_of d s.traces) line a b }
     ensures next { (d : Declaration) (files : Content) (s after other : State) (line a b : List ℕ) (found : Found) → IsDeclaration d → IsState d s → LineReply d files s line found a after → LineReply d files s line found b other → after ≡ other }
@@ -46,6 +46,7 @@ pub fn replies_are_one()
     refused_or_read();
     queries::replies_are_one();
     merges_are_one();
+    times_are_one();
     blames_are_one();
 }
 

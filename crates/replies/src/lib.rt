@@ -18,6 +18,7 @@ mod merge_laws;
 mod outcome;
 mod refusal;
 mod refused;
+mod times_laws;
 
 pub use command::{Command, Question, read_command};
 pub use laws::{
@@ -29,3 +30,4 @@ pub use merge_laws::merges_are_one;
 pub use outcome::{Added, Aside, Outcome};
 pub use refusal::{Refusal, capture_refusal, log_refusal, write_refusal};
 pub use refused::{RefusedText, refused_text, too_long_text};
+pub use times_laws::times_are_one;

@@ -20,7 +20,7 @@ use ports::Sink;
 use problem_text::write_roster;
 use queries::Stop;
 use replies::{Question, write_merge};
-use session_answers::{Answers, TwoNames, ask_comparison, ask_proof, ask_time};
+use session_answers::{Answers, TwoNames, ask_comparison, ask_proof, ask_time, ask_times};
 use std::alloc::Global;
 use std::sync::ledger::Ledger;
 use traces::Accepted;
@@ -58,6 +58,10 @@ pub(crate) fn answer<O: Sink, L: Ledger>(
             written(ask_comparison(names, solver, asked, &events, out, steps))
         }
         Question::Time { event } => { written(ask_time(names, solver, answers.source, event, out)) }
+        Question::Times { since } => {
+            let source = answers.source;
+            written(ask_times(names, solver, source, since, out, steps))
+        }
         Question::Merge => write_merge(alloc, names.decl(), accepted, names, solver, out),
         Question::Prove { first, second } => {
             let events = TwoNames { first, second };

@@ -24,7 +24,7 @@ use Rattle.problem.proofs.OwnReadings.{own_readings}
 use Rattle.session_answers.specs.declared.answers.Answers.{Answers}
 use Rattle.replies.specs.declared.refusal.Refusal.TheVariants.{NoSourceTime}
 use Rattle.replies.specs.Refusals.{refusal_line}
-use Rattle.replies.specs.Reply.{OfOne, OfTwo, IsTimeReply}
+use Rattle.replies.specs.Reply.{OfOne, OfSource, OfTwo, IsTimeReply}
 use Rattle.session_answers.specs.Ready.{AreSlotsOf, AreAnswersOf, KeepsSource, HasSpareRows, answers_problem, declared}
 use Rattle.session_answers.specs.Keeping.{IsCalled, HasSlotBy}
 use Rattle.session_answers.proofs.Engines.{kept_stays}
@@ -129,20 +129,37 @@ pub source_known : (l : Listed) (p : ProblemLists) (source : Option ℕ) (stamp 
 source_known l p None stamp s is = let none : Some stamp ≡ None = is.0 in absurd cc
 source_known l p (Some clock) stamp s is = (clock, refl, is)
 
--- what the code says of the time of an event is a reply
+-- what the code says by the source's clock is a reply
+abbrev SourceTold : ProblemLists → Option ℕ → (ℕ → List ℕ → Type 0) → (List ℕ → Type 0) → Type 0
+SourceTold p source Says IsWritten = (text : List ℕ) × OfSource p source Says text × IsWritten text
+
+pub by_source : (l : Listed) (p : ProblemLists) (source : Option ℕ) (stamp : ℕ) (s : SolverLists) (Says : ℕ → List ℕ → Type 0) (IsWritten : List ℕ → Type 0) → IsSolutionBy l p s →
+    IfSome source (λ clock. KeepsTime p clock) → KeepsSource l p source (Some stamp) s →
+    ((clock : ℕ) → KeepsTime p clock → IsSourceReading l s clock stamp → (text : List ℕ) × Replies p (Says clock) text × IsWritten text) → SourceTold p source Says IsWritten
+by_source l p None stamp s Says IsWritten is true_time keeps says = let none : Some stamp ≡ None = keeps.0 in absurd cc
+by_source l p (Some clock) stamp s Says IsWritten is true_time keeps says =
+    let t = says clock true_time keeps in
+    let has : HasReading p clock = (stamp, listed_reading l p s clock stamp keeps.0.node is keeps.2) in
+    (t.0, inl (has, t.1), t.2)
+
+pub source_refused : (l : Listed) (p : ProblemLists) (source : Option ℕ) (s : SolverLists) (Says : ℕ → List ℕ → Type 0) (IsWritten : List ℕ → Type 0) → KeepsSource l p source None s →
+    IsWritten (refusal_line NoSourceTime) → SourceTold p source Says IsWritten
+source_refused l p None s Says IsWritten keeps written = (refusal_line NoSourceTime, refl, written)
+source_refused l p (Some clock) s Says IsWritten keeps written = (refusal_line NoSourceTime, inr (keeps.0, refl), written)
+
+-- and what it says of the time of an event
 abbrev TimeTold : ProblemLists → Option ℕ → List ℕ → (List ℕ → Type 0) → Type 0
 TimeTold p source name IsWritten = (text : List ℕ) × OfOne p name (IsTimeReply p source) text × IsWritten text
 
 pub time_known : (l : Listed) (p : ProblemLists) (source : Option ℕ) (stamp event : ℕ) (s : SolverLists) (name : List ℕ) (IsWritten : List ℕ → Type 0) → IsSolutionBy l p s → HasEvent p event name →
     IfSome source (λ clock. KeepsTime p clock) → KeepsSource l p source (Some stamp) s →
     ((clock : ℕ) → KeepsTime p clock → IsSourceReading l s clock stamp → (text : List ℕ) × Replies p (IsTimeLine p clock event) text × IsWritten text) → TimeTold p source name IsWritten
-time_known l p None stamp event s name IsWritten is at true_time keeps says = let none : Some stamp ≡ None = keeps.0 in absurd cc
-time_known l p (Some clock) stamp event s name IsWritten is at true_time keeps says =
-    let t = says clock true_time keeps in
-    let has : HasReading p clock = (stamp, listed_reading l p s clock stamp keeps.0.node is keeps.2) in
-    (t.0, inl (event, at, inl (has, t.1)), t.2)
+time_known l p source stamp event s name IsWritten is at true_time keeps says =
+    let t = by_source l p source stamp s (λ (clock : ℕ). IsTimeLine p clock event) IsWritten is true_time keeps says in
+    (t.0, inl (event, at, t.1), t.2)
 
 pub time_refused : (l : Listed) (p : ProblemLists) (source : Option ℕ) (event : ℕ) (s : SolverLists) (name : List ℕ) (IsWritten : List ℕ → Type 0) → HasEvent p event name → KeepsSource l p source None s →
     IsWritten (refusal_line NoSourceTime) → TimeTold p source name IsWritten
-time_refused l p None event s name IsWritten at keeps written = (refusal_line NoSourceTime, inl (event, at, refl), written)
-time_refused l p (Some clock) event s name IsWritten at keeps written = (refusal_line NoSourceTime, inl (event, at, inr (keeps.0, refl)), written)
+time_refused l p source event s name IsWritten at keeps written =
+    let t = source_refused l p source s (λ (clock : ℕ). IsTimeLine p clock event) IsWritten keeps written in
+    (t.0, inl (event, at, t.1), t.2)

@@ -7,3 +7,5 @@ pub mod KeptNext
 pub mod Beginning
 pub mod Entering
 mod Renewing
+mod RowPairs
+mod TimesTold

@@ -1,2 +1,5 @@
 pub mod Ready
 pub mod Keeping
+pub mod Quantities
+pub mod TimesTexts
+pub mod TimesAsking

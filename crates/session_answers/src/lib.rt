@@ -3,16 +3,20 @@
 //!
 //! `renew` brings the events and messages of an addition into the graph, and gives the source its rows when its first
 //! reading comes. `keep_event` gives an event its rows. `ask_comparison`, `ask_proof` and `ask_time` answer questions
-//! about events by their names.
+//! about events by their names, and `ask_times` the question for the times of all events.
 #![tactic(auto)]
 
 mod answers;
 mod events;
 mod kept_events;
+mod quantity;
 mod questions;
 mod slots;
+mod times;
+mod times_lines;
 
 pub use answers::{Answers, Renewed, decl_of, first_answers, renew};
 pub use events::TwoNames;
 pub use kept_events::keep_event;
 pub use questions::{ask_comparison, ask_proof, ask_time};
+pub use times::ask_times;

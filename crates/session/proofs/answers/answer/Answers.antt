@@ -8,13 +8,15 @@ use Rattle.solver.specs.Solution.{IsSolutionBy}
 use Rattle.traces.specs.Held.{missed_in, seen_in}
 use Rattle.traces.specs.Messages.{problem_of_seen}
 use Rattle.traces.proofs.Seen.{problem_lawful}
-use Rattle.replies.specs.Commands.{Compare, Time, Merge, Prove, Problem}
+use Rattle.replies.specs.declared.command.Question.TheVariants as questions
+use Rattle.replies.specs.Commands.{Compare, Time, Merge, Prove, Problem, question_seen}
 use Rattle.replies.specs.Reply.{IsAnswerTo}
 use Rattle.session_answers.specs.Ready.{answers_problem, declared}
 use Rattle.session_answers.proofs.AskedRows.{answers_left}
 use Rattle.session_answers.proofs.Engines.{spare_free, told}
 use Rattle.session_graph.proofs.Held.{labels_many}
-use Rattle.session.proofs.Replying.{source_keeps}
+use Rattle.session_answers.specs.Keeping.{HasSlotBy}
+use Rattle.session.proofs.Replying.{source_keeps, times_answered, times_at_hand}
 use Rattle.session.proofs.answers.answer.Goals as goal
 
 pub ask_comparison-requires-clause-solution : goal.ask_comparison-requires-clause-solution
@@ -62,6 +64,30 @@ returns-in-Time-clause-writes g c =
     let are = c.requires.ready.1 in
     let t = c.ask_time.ensures (answers_problem a seen) d.source are.graph.solution (source_keeps d c.args.accepted.now are.lawful.declared) are.source_slot in
     rw c.in-Time.is (such_of (IsAnswerTo (Time c.in-Time.event.now) d seen (missed_in c.args.accepted.now)) t.1 (c.written-in-Time.ensures.writes t.0 _ _ t.2))
+
+pub ask_times-requires-clause-solution : goal.ask_times-requires-clause-solution
+ask_times-requires-clause-solution g c =
+    let are = c.requires.ready.1 in
+    (answers_problem c.args.answers.now (seen_in c.args.accepted.now), are.graph.solution, ((declared c.args.answers.now).source, are.source_slot))
+
+pub ask_times-requires-clause-free : goal.ask_times-requires-clause-free
+ask_times-requires-clause-free g c = spare_free c.args.answers.now.graph.solver c.requires.ready.1.rows
+
+pub returns-in-Times-clause-writes : goal.returns-in-Times-clause-writes
+returns-in-Times-clause-writes g c =
+    let a = c.args.answers.now in
+    let d = declared a in
+    let seen = seen_in c.args.accepted.now in
+    let are = c.requires.ready.1 in
+    let t = c.ask_times.ensures.writes (answers_problem a seen) d.source are.graph.solution (source_keeps d c.args.accepted.now are.lawful.declared) are.source_slot in
+    rw c.in-Times.is (such_of (IsAnswerTo (question_seen (questions.Times c.in-Times.since)) d seen (missed_in c.args.accepted.now)) (times_answered d seen (missed_in c.args.accepted.now) c.in-Times.since t.0 t.1) (c.written-in-Times.ensures.writes t.0 _ _ t.2))
+
+pub returns-in-Times-clause-ready : goal.returns-in-Times-clause-ready
+returns-in-Times-clause-ready g c = λ kept are. answers_left (seen_in c.args.accepted.now) kept c.args.answers.now _ are c.ask_times.ensures.leaves
+
+pub returns-in-Times-clause-steps : goal.returns-in-Times-clause-steps
+returns-in-Times-clause-steps g c =
+    rw c.in-Times.is (λ known. c.ask_times.ensures.steps (times_at_hand (HasSlotBy c.args.answers.now.graph.roster c.args.answers.now.graph.solver) c.in-Times.since known))
 
 pub write_merge-requires-clause-declared : goal.write_merge-requires-clause-declared
 write_merge-requires-clause-declared g c = subst IsDeclaration (sym c.decl.ensures.same) c.requires.ready.1.lawful.declared
