@@ -1,6 +1,6 @@
 -- Lawful words, files and scripts leave a run no status but those of an answer and of want of memory.
 use Rattle.std.proofs.Common.{◌≡◌, ◌⊎◌, ◌≤◌, ◌<◌, ◌++◌, inl, inr, ℕ, List, length, take, codes, Option, Some, None, refl, sym, ◌∙◌, subst, arith}
-use Rattle.std.specs.Prelude.{IsSomeAnd}
+use Rattle.std.specs.Prelude.{IsSomeAnd, All}
 use Rattle.ports.specs.Content.{Rose, Appends, SinkTold, SourceTold}
 use Rattle.ports.specs.Files.{Content, FilesTold, HasBytes, IsAbsent, Keeps}
 use Rattle.ports.specs.Lines.{most_taken, whole_lines}
@@ -14,7 +14,7 @@ use Rattle.decl.specs.declared.errors.DeclError.TheVariants as faults
 use Rattle.decl.specs.declared.errors.Section.{Section}
 use Rattle.session.specs.Script.{Devices, OfScript, Replied}
 use Rattle.commands.specs.Asked.{Asked, help_text, version_text}
-use Rattle.commands.specs.Asked.Asked.{Obey, Solve, Ends, Verify, Session, Trial, Widen, Judge, Blame, Mergecap, MergeDated, Help, Version, Nothing}
+use Rattle.commands.specs.Asked.Asked.{Obey, Solve, Ends, Verify, Session, Trial, Widen, Judge, Blame, Thin, Mergecap, MergeDated, Help, Version, Nothing}
 use Rattle.commands.specs.Runs.{Answers}
 use Rattle.commands.specs.Complete.{Holds, HoldsProblem, IsExecutionText, IsCertText, IsWideningText, IsLawfulInput, IsFaultless, IsAnswered}
 use Rattle.problem_commands.specs.ForProblem.{ForProblem}
@@ -34,6 +34,7 @@ use Rattle.commands.specs.Trials.{IsNumber, Tried, TriedBy}
 use Rattle.problem_commands.specs.Verify.{Verified}
 use Rattle.problem_commands.specs.Widening.{RefusesWidening, TellsLeastNamed, WideningFound, WideningJudged}
 use Rattle.problem_commands.specs.Blame.{TellsBlame, Blamed}
+use Rattle.problem_commands.specs.Thin.{IsKnown, TellsThin, ProblemThinned}
 use Rattle.problem_commands.specs.declared.refusal.Refusal.{Refusal}
 use Rattle.problem_commands.specs.declared.status.Status.{Status}
 use Rattle.problem_commands.specs.declared.status.Status.TheVariants as statuses
@@ -126,6 +127,12 @@ least_told : (p : ProblemLists) (ws : List (List ℕ)) → ((what : What) × Say
 least_told p ws says status text (inl (what, says', tells)) = inl tells.0
 least_told p ws says status text (inr (nothing, only)) = absurd (nothing says.0 says.1)
 
+thin_told : (p : ProblemLists) (names : List (List ℕ)) → All (IsKnown p) names → (status : Status) (text : List ℕ) → TellsThin p names status text → IsAnswered status
+thin_told p names known status text (inl (named, is, tells)) = inl is
+thin_told p names known status text (inr ((k, name, inside, at, unknown), only)) =
+    let one = known k name inside in
+    absurd (unknown one.0 (subst (HasEvent p one.0) at one.1))
+
 -- ---- the commands
 module _ (law : HaveOneAnswer) (old new : FilesTold) (none : Rose old.faults new.faults → ⊥) where
   -- those over one problem
@@ -212,6 +219,10 @@ module _ (law : HaveOneAnswer) (old new : Devices) (none : IsFaultless old new) 
   blame_answered : (problem : List ℕ) (result : Status) → HoldsProblem old.files.content problem (λ p. Unit {0}) → Prints (Blamed problem old.files new.files) old.out new.out result → IsAnswered result
   blame_answered problem result lawful =
       printed (Blamed problem old.files new.files) old.out new.out result (one_goes law old.files new.files none.files TellsBlame (λ p. Unit {0}) problem (λ p asked status text tells. inl tells.0) lawful) none.out
+
+  thin_answered : (problem : List ℕ) (names : List (List ℕ)) (result : Status) → HoldsProblem old.files.content problem (λ p. All (IsKnown p) names) → Prints (ProblemThinned problem names old.files new.files) old.out new.out result → IsAnswered result
+  thin_answered problem names result lawful =
+      printed (ProblemThinned problem names old.files new.files) old.out new.out result (one_goes law old.files new.files none.files (λ p. TellsThin p names) (λ p. All (IsKnown p) names) problem (λ p. thin_told p names) lawful) none.out
 
   judge_answered : (problem widening : List ℕ) (result : Status) → HoldsProblem old.files.content problem (λ p. Holds old.files.content widening (IsWideningText p))
       → Prints (WideningJudged problem widening old.files new.files) old.out new.out result → IsAnswered result
@@ -324,6 +335,7 @@ all_answered law (Trial number) old new result answers lawful none = trial_answe
 all_answered law (Widen problem ws) old new result answers lawful none = widen_answered law old new none problem ws result lawful answers
 all_answered law (Judge problem widening) old new result answers lawful none = judge_answered law old new none problem widening result lawful answers
 all_answered law (Blame problem) old new result answers lawful none = blame_answered law old new none problem result lawful answers
+all_answered law (Thin problem names) old new result answers lawful none = thin_answered law old new none problem names result lawful answers
 all_answered law (Mergecap decl) old new result answers lawful none =
     mergecap_answered old.files new.files old.input new.input old.out new.out none.files none.input none.out decl result lawful answers
 all_answered law (MergeDated decl) old new result answers lawful none =

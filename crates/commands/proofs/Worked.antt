@@ -1,7 +1,7 @@
 -- What the words of each command ask for.
 use Rattle.std.proofs.Common.{◌≡◌, ℕ, List, [], ◌∷◌, codes, refl}
 use Rattle.commands.specs.Asked.{Asked, asked_of}
-use Rattle.commands.specs.Asked.Asked.{Obey, Solve, Ends, Verify, Session, Trial, Widen, Judge, Blame, Mergecap, MergeDated, Help, Version, Nothing}
+use Rattle.commands.specs.Asked.Asked.{Obey, Solve, Ends, Verify, Session, Trial, Widen, Judge, Blame, Thin, Mergecap, MergeDated, Help, Version, Nothing}
 
 obey : (problem exec : List ℕ) → asked_of (codes "obey" ∷ problem ∷ exec ∷ []) ≡ Obey problem exec
 obey problem exec = refl
@@ -42,6 +42,16 @@ judge problem widening = refl
 
 blame : (problem : List ℕ) → asked_of (codes "blame" ∷ problem ∷ []) ≡ Blame problem
 blame problem = refl
+
+thin : (problem : List ℕ) → asked_of (codes "thin" ∷ problem ∷ []) ≡ Thin problem []
+thin problem = refl
+
+thin_events : (problem first second : List ℕ) → asked_of (codes "thin" ∷ problem ∷ first ∷ second ∷ []) ≡ Thin problem (first ∷ second ∷ [])
+thin_events problem first second = refl
+
+-- a problem has to be named
+no_thin : asked_of (codes "thin" ∷ []) ≡ Nothing
+no_thin = refl
 
 mergecap : (decl : List ℕ) → asked_of (codes "mergecap" ∷ decl ∷ []) ≡ Mergecap decl
 mergecap decl = refl

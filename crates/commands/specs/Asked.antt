@@ -1,5 +1,5 @@
 -- What the words of a run ask for.
-use Rattle.std.specs.Prelude.{ℕ, List, [], ◌∷◌, ◌++◌, codes, if◌then◌else◌, ⊤}
+use Rattle.std.specs.Prelude.{ℕ, List, [], ◌∷◌, ◌++◌, drop, codes, if◌then◌else◌, ⊤}
 use Rattle.std.specs.Str.{bytes_eq}
 use Rattle.problem_commands.specs.WhatWords.{links_kind, clocks_kind}
 use Rattle.commands.specs.declared.request.Request.{Request}
@@ -18,6 +18,7 @@ pub data Asked : Type 0 where
   Widen : List ℕ → List (List ℕ) → Asked
   Judge : List ℕ → List ℕ → Asked
   Blame : List ℕ → Asked
+  Thin : List ℕ → List (List ℕ) → Asked
   Mergecap : List ℕ → Asked
   MergeDated : List ℕ → Asked
   Help : Asked
@@ -69,10 +70,20 @@ asked_by name (a ∷ b ∷ c ∷ []) =
 asked_by name (a ∷ b ∷ c ∷ d ∷ []) = if bytes_eq name (codes "widen") then widen_link a b c d else Nothing
 asked_by name (a ∷ b ∷ c ∷ d ∷ e ∷ more) = Nothing
 
+-- what words ask for by the first of them, whichever it is
+abbrev pub asked_few : List (List ℕ) → Asked
+asked_few [] = Nothing
+asked_few (name ∷ more) = asked_by name more
+
+-- what a problem is thinned for: the events of the words behind it, of which there may be any number
+abbrev pub thin_by : List (List ℕ) → Asked
+thin_by [] = Nothing
+thin_by (problem ∷ events) = Thin problem events
+
 -- what words ask for
 abbrev pub asked_of : List (List ℕ) → Asked
 asked_of [] = Nothing
-asked_of (name ∷ more) = asked_by name more
+asked_of (name ∷ more) = if bytes_eq name (codes "thin") then thin_by more else asked_by name more
 
 -- what the request of the code asks for
 abbrev pub seen_request : Request → Asked
@@ -89,6 +100,7 @@ seen_request (request.WidenLink problem kind from to) = Widen problem.now (links
 seen_request (request.WidenClock problem kind clock) = Widen problem.now (clocks_kind kind ∷ clock.now ∷ [])
 seen_request (request.Judge problem widening) = Judge problem.now widening.now
 seen_request (request.Blame problem) = Blame problem.now
+seen_request (request.Thin problem words) = Thin problem.now (drop 2 words.now)
 seen_request (request.Mergecap decl) = Mergecap decl.now
 seen_request (request.MergeDated decl) = MergeDated decl.now
 seen_request request.Help = Help
@@ -113,7 +125,7 @@ ReadsNoScript _ = ⊤
 -- ---- what is printed without a file
 -- where nothing that there is was asked for
 abbrev pub usage_line : List ℕ
-usage_line = codes "usage: tracesync obey PROBLEM EXEC | solve PROBLEM | ends PROBLEM P Q | verify PROBLEM CERT | session DECL | trial N | widen PROBLEM WHAT.. | judge PROBLEM WIDENING | blame PROBLEM | mergecap DECL [pcapng] | --help | --version\n"
+usage_line = codes "usage: tracesync obey PROBLEM EXEC | solve PROBLEM | ends PROBLEM P Q | verify PROBLEM CERT | session DECL | trial N | widen PROBLEM WHAT.. | judge PROBLEM WIDENING | blame PROBLEM | thin PROBLEM P.. | mergecap DECL [pcapng] | --help | --version\n"
 
 -- the commands, each with what it is for
 abbrev pub help_text : List ℕ
@@ -129,6 +141,7 @@ help_text =
     ++ codes "                          one of delays, least, stamps, rates, gaps, stamps CLOCK, rates CLOCK, delays FROM TO, least FROM TO\n"
     ++ codes "  judge PROBLEM WIDENING  whether what widen says is so; if not, the first reason why not\n"
     ++ codes "  blame PROBLEM           by how much bounds of each kind, clock and link must widen so that these alone heal a contradiction\n"
+    ++ codes "  thin PROBLEM P..        a problem of fewer messages and events, P.. among them: `ends` of each two is as in the whole one\n"
     ++ codes "  mergecap DECL < SCRIPT  the packets of all captures that SCRIPT adds, as one capture in the order of their events' times\n"
     ++ codes "                          with `pcapng` behind DECL, as a file of pcapng: dates as stamps, an interface for each label\n"
     ++ codes "\n"
@@ -139,4 +152,4 @@ help_text =
 
 -- the number of the version, by the changelog
 abbrev pub version_text : List ℕ
-version_text = codes "tracesync 27\n"
+version_text = codes "tracesync 28\n"

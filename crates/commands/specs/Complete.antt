@@ -1,5 +1,5 @@
 -- When all that the words of a run ask for is lawful, and how the run then ends.
-use Rattle.std.specs.Prelude.{◌≡◌, ◌⊎◌, ◌≤◌, ℕ, ℤ, List, length, Option, IsSomeAnd}
+use Rattle.std.specs.Prelude.{◌≡◌, ◌⊎◌, ◌≤◌, ℕ, ℤ, List, length, Option, IsSomeAnd, All}
 use Rattle.ports.specs.Content.{Rose}
 use Rattle.ports.specs.Files.{Content}
 use Rattle.ports.specs.Lines.{most_taken}
@@ -15,8 +15,9 @@ use Rattle.widen.specs.declared.widening.Widening.{Widening}
 use Rattle.widen.specs.Named.{SaysWhat}
 use Rattle.session.specs.Script.{Devices}
 use Rattle.commands.specs.Asked.{Asked}
-use Rattle.commands.specs.Asked.Asked.{Obey, Solve, Ends, Verify, Session, Trial, Widen, Judge, Blame, Mergecap, MergeDated, Help, Version, Nothing}
+use Rattle.commands.specs.Asked.Asked.{Obey, Solve, Ends, Verify, Session, Trial, Widen, Judge, Blame, Thin, Mergecap, MergeDated, Help, Version, Nothing}
 use Rattle.commands.specs.Trials.{IsNumber}
+use Rattle.problem_commands.specs.Thin.{IsKnown}
 use Rattle.problem_commands.specs.Texts.{SpellsProblem, SpellsCert}
 use Rattle.problem_commands.specs.Widening.{SpellsWidening}
 use Rattle.problem_commands.specs.declared.status.Status.{Status}
@@ -60,6 +61,7 @@ IsLawfulInput (Trial number) files script = (n : ℕ) × IsNumber n number
 IsLawfulInput (Widen problem ws) files script = HoldsProblem files problem (λ p. (what : What) × SaysWhat p ws what)
 IsLawfulInput (Judge problem widening) files script = HoldsProblem files problem (λ p. Holds files widening (IsWideningText p))
 IsLawfulInput (Blame problem) files script = HoldsProblem files problem (λ p. Unit {0})
+IsLawfulInput (Thin problem names) files script = HoldsProblem files problem (λ p. All (IsKnown p) names)
 IsLawfulInput (Mergecap decl) files script = HasScript files decl script
 IsLawfulInput (MergeDated decl) files script = HasScript files decl script
 IsLawfulInput Help files script = Unit {0}

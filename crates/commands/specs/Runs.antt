@@ -14,8 +14,9 @@ use Rattle.problem_commands.specs.Intervals.{IntervalAnswered}
 use Rattle.problem_commands.specs.Verify.{Verified}
 use Rattle.problem_commands.specs.Widening.{WideningFound, WideningJudged}
 use Rattle.problem_commands.specs.Blame.{Blamed}
+use Rattle.problem_commands.specs.Thin.{ProblemThinned}
 use Rattle.commands.specs.Asked.{Asked, asked_of, ReadsNoFile, ReadsNoScript, usage_line, help_text, version_text}
-use Rattle.commands.specs.Asked.Asked.{Obey, Solve, Ends, Verify, Session, Trial, Widen, Judge, Blame, Mergecap, MergeDated, Help, Version, Nothing}
+use Rattle.commands.specs.Asked.Asked.{Obey, Solve, Ends, Verify, Session, Trial, Widen, Judge, Blame, Thin, Mergecap, MergeDated, Help, Version, Nothing}
 use Rattle.commands.specs.Sessions.{Conducted}
 use Rattle.commands.specs.Trials.{TriedBy}
 use Rattle.commands.specs.Complete.{IsLawfulInput, IsFaultless, IsAnswered}
@@ -33,6 +34,7 @@ Answers (Trial number) old new result = TriedBy number old.out new.out result
 Answers (Widen problem ws) old new result = Prints (WideningFound problem ws old.files new.files) old.out new.out result
 Answers (Judge problem widening) old new result = Prints (WideningJudged problem widening old.files new.files) old.out new.out result
 Answers (Blame problem) old new result = Prints (Blamed problem old.files new.files) old.out new.out result
+Answers (Thin problem names) old new result = Prints (ProblemThinned problem names old.files new.files) old.out new.out result
 Answers (Mergecap decl) old new result = Prints (MergedAt decl (reads old.files old.input) (reads new.files new.input)) old.out new.out result
 Answers (MergeDated decl) old new result = Prints (DatedAt decl (reads old.files old.input) (reads new.files new.input)) old.out new.out result
 Answers Help old new result = Closes help_text Done old.out new.out result

@@ -23,6 +23,7 @@ use problem_commands::judge::judge;
 use problem_commands::last_line::finish;
 use problem_commands::obey::obey;
 use problem_commands::solve::solve;
+use problem_commands::thin::thin;
 use problem_commands::verify::verify;
 use problem_commands::what_words::WhatWords;
 use problem_commands::widening::widen;
@@ -99,6 +100,7 @@ fn run_counted<F: Files, I: Source, O: Sink, N: Sink, L: Ledger>(
         }
         Request::Judge { problem, widening } => judge(alloc, files, problem, widening, out),
         Request::Blame { problem } => blame(alloc, files, problem, out, &mut steps),
+        Request::Thin { problem, words } => thin(alloc, files, problem, words, out),
         Request::Mergecap { decl } => {
             let file = DeclFile { alloc, path: decl };
             mergecap(&file, files, input, out, &mut steps, notes)
@@ -125,10 +127,12 @@ fn run_counted<F: Files, I: Source, O: Sink, N: Sink, L: Ledger>(
 /// what the words name of the problem, of all greatest delays without any, with what shows it from both sides, or that
 /// there is none; `judge PROBLEM WIDENING` says whether such a text shows what it should, or the first reason why not;
 /// `blame PROBLEM` prints by how much all delays, stamps, rates or gaps, or those of one clock or of the messages from
-/// one clock to another, must be widened at least so that this alone heals a contradiction; `mergecap DECL` adds what
-/// the lines of the input say, each an `add`, in a session over the declaration, and prints the packets of all captures
-/// as one, in the order of their events' times, with a third word `pcapng` as a file of pcapng, with their dates; `--help`
-/// prints the commands, each with what it is for, `--version` the number of the version.
+/// one clock to another, must be widened at least so that this alone heals a contradiction; `thin PROBLEM P..` prints a
+/// problem of some of its events and messages, with the events of the names P among them, that has the same greatest
+/// difference of each two events that it has, and an execution exactly where the whole one has; `mergecap DECL` adds
+/// what the lines of the input say, each an `add`, in a session over the declaration, and prints the packets of all
+/// captures as one, in the order of their events' times, with a third word `pcapng` as a file of pcapng, with their
+/// dates; `--help` prints the commands, each with what it is for, `--version` the number of the version.
 ///
 /// `Usage` comes where the words are of no form, `BadDecl`, `BadProblem`, `BadExec` and `BadCert` where a text is
 /// refused, `UnknownName` where the problem has no event or no clock of a name, `ReadFault` where a named file is not

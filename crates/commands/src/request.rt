@@ -1,12 +1,13 @@
 // What the words of a command line ask for.
-ghost use Rattle.std.specs.Prelude.{◌≡◌, [], ◌∷◌};
-ghost use Rattle.commands.specs.Asked.{asked_by, asked_of, merge_as, seen_request, widen_all, widen_clock, widen_link};
+ghost use Rattle.std.specs.Prelude.{◌≡◌, [], ◌∷◌, codes, drop};
+ghost use Rattle.std.specs.Str.{bytes_eq};
+ghost use Rattle.commands.specs.Asked.{asked_by, asked_few, asked_of, merge_as, seen_request, thin_by, widen_all, widen_clock, widen_link};
 
 use ports::Words;
 use problem_commands::what_words::{KindOfClocks, KindOfLinks};
 
 /// What the words of a command line ask for.
-#[derive(Clone, Copy, Debug)]
+#[derive(Clone, Copy)]
 pub enum Request<'a> {
     /// `obey PROBLEM EXEC`.
     Obey {
@@ -71,6 +72,11 @@ pub enum Request<'a> {
     /// `blame PROBLEM`.
     Blame {
         problem: &'a str,
+    },
+    /// `thin PROBLEM P..`, whose words are all that there are.
+    Thin {
+        problem: &'a str,
+        words: &'a Words,
     },
     /// `mergecap DECL`.
     Mergecap {
@@ -247,9 +253,16 @@ fn asked_of_four<'a>(
     }
 }
 
-/// What these words ask for.
-pub fn request_of(words: &Words) -> Request<'_>
-    ensures { seen_request result ≡ asked_of words.now }
+// Whether a word is `thin`.
+fn is_thin(word: &str) -> bool
+    ensures { result ≡ bytes_eq word.now (codes "thin") }
+{
+    word == "thin"
+}
+
+// What words ask for that do not begin with `thin`.
+fn asked_of_few(words: &Words) -> Request<'_>
+    ensures { seen_request result ≡ asked_few words.now }
 {
     match words.len() {
         1 => asked_alone(words.word(0)),
@@ -264,5 +277,32 @@ pub fn request_of(words: &Words) -> Request<'_>
             words.word(4),
         ),
         _ => Request::Nothing,
+    }
+}
+
+// What words ask for that begin with `thin`.
+fn asked_of_thin(words: &Words) -> Request<'_>
+    ensures { seen_request result ≡ thin_by (drop 1 words.now) }
+{
+    if words.len() < 2 {
+        return Request::Nothing;
+    }
+    Request::Thin {
+        problem: words.word(1),
+        words,
+    }
+}
+
+/// What these words ask for.
+pub fn request_of(words: &Words) -> Request<'_>
+    ensures { seen_request result ≡ asked_of words.now }
+{
+    if words.len() == 0 {
+        return Request::Nothing;
+    }
+    if is_thin(words.word(0)) {
+        asked_of_thin(words)
+    } else {
+        asked_of_few(words)
     }
 }

@@ -9,3 +9,4 @@ pub mod Intervals
 pub mod Verifying
 pub mod ClockNames
 pub mod Widenings
+pub mod Thinning

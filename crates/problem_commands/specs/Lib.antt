@@ -11,3 +11,4 @@ pub mod Verify
 pub mod WhatWords
 pub mod Widening
 pub mod Blame
+pub mod Thin

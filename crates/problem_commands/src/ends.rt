@@ -36,7 +36,7 @@ pub struct TwoNames<'a> {
 }
 
 // The place of the event of a name.
-fn event_of(p: &Problem, name: &[u8]) -> Option<u32>
+pub(crate) fn event_of(p: &Problem, name: &[u8]) -> Option<u32>
     ensures some { IfSome result (λ place. HasEvent p.now place name.now) }
     ensures none { IfNone result (IsUnknown p.now name.now) }
 {

@@ -1,4 +1,4 @@
-//! The commands over texts of problems: `obey`, `solve`, `ends`, `verify`, `widen`, `judge` and `blame`.
+//! The commands over texts of problems: `obey`, `solve`, `ends`, `verify`, `widen`, `judge`, `blame` and `thin`.
 #![tactic(auto)]
 
 pub mod blame;
@@ -11,6 +11,7 @@ pub mod refusal;
 pub mod solve;
 pub mod status;
 mod texts;
+pub mod thin;
 pub mod verify;
 pub mod what_words;
 pub mod widening;

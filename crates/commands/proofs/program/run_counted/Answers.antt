@@ -14,3 +14,6 @@ returns-in-WidenLink-clause-answers g c = rw c.in-WidenLink.is c.widen-in-WidenL
 
 pub returns-in-WidenClock-clause-answers : goal.returns-in-WidenClock-clause-answers
 returns-in-WidenClock-clause-answers g c = rw c.in-WidenClock.is c.widen-in-WidenClock.ensures.found
+
+pub returns-in-Thin-clause-answers : goal.returns-in-Thin-clause-answers
+returns-in-Thin-clause-answers g c = rw c.in-Thin.is c.thin.ensures.thinned

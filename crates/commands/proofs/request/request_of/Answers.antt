@@ -1,9 +1,10 @@
-use Rattle.std.proofs.Common.{◌≡◌, length, ◌∙◌, sym, ap, rules}
-use Rattle.commands.specs.Asked.{asked_of}
-use Rattle.commands.proofs.Requests.{three}
+use Rattle.std.proofs.Common.{◌≡◌, ◌∙◌, true, false, codes, sym}
+use Rattle.std.specs.Str.{bytes_eq}
+use Rattle.commands.proofs.Requests.{few, by_thin}
 use Rattle.commands.proofs.request.request_of.Goals as goal
 
-pub returns-in-3 : goal.returns-in-3
-returns-in-3 c =
-    let count : length c.args.words.now ≡ 3 = search rules in
-    c.asked_of_two.ensures ∙ ap asked_of (sym (three c.args.words.now _ _ _ count c.word-in-3.ensures c.word-in-3-2.ensures c.word-in-3-3.ensures))
+pub returns-then-is_thin : goal.returns-then-is_thin
+returns-then-is_thin c = c.asked_of_thin.ensures ∙ by_thin c.args.words.now c.word.result.now c.word.ensures (sym c.is_thin.ensures ∙ c.if-is_thin.true)
+
+pub returns-else-is_thin : goal.returns-else-is_thin
+returns-else-is_thin c = c.asked_of_few.ensures ∙ few c.args.words.now c.word.result.now c.word.ensures (sym c.is_thin.ensures ∙ c.if-is_thin.false)
