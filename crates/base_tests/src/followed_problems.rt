@@ -16,7 +16,7 @@ const TEXTS: [&str; 5] = [
 ];
 
 // The fault of a text, if it has one.
-fn fault_of(alloc: Global, text: &[u8]) -> Option<ProblemError> {
+pub(crate) fn fault_of(alloc: Global, text: &[u8]) -> Option<ProblemError> {
     match read_problem(alloc, text) {
         Ok(_) => None,
         Err(fault) => Some(fault),
@@ -145,7 +145,7 @@ const OUT_OF_RANGE: [(&str, u32); 2] = [
 
 // First lines of no version.
 const HEADS: [&str; 6] = [
-    "problem 3\nend\n",
+    "problem 4\nend\n",
     "problem 0\nend\n",
     "problem 12\nend\n",
     "problem 02\nend\n",

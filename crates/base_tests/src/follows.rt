@@ -40,6 +40,7 @@ fn follow_gap(rt: &impl Abort, alloc: Global) -> Problem {
             name: named(rt, name),
             clock,
             stamp: nano(rt, stamp),
+            bounds: None,
         };
         assert!(rt; problem.push_event(event).is_ok());
     }

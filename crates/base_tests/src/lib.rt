@@ -6,10 +6,13 @@
 //! a call below fails (`ports`), `values` values and their places (`interner`).
 //!
 //! `problems` has problems that are pushed or read, and their faults; `follows` one of two clocks of which one follows
-//! the other, by pushes, and `followed_problems` texts of such problems (`problem`); `texts` the bytes of a trial's logs,
-//! script and declaration, and `declarations` what that is read as (`trial`).
+//! the other, by pushes, and `followed_problems` texts of such problems; `bounded_events` problems whose events have
+//! bounds of their own (`problem`); `texts` the bytes of a trial's logs, script and declaration, and `declarations` what
+//! that is read as (`trial`).
 #![tactic(auto)]
 
+#[cfg(test)]
+mod bounded_events;
 #[cfg(test)]
 mod cuts;
 #[cfg(test)]

@@ -181,6 +181,7 @@ fn two_logs(rt: &impl Abort, alloc: Global) -> Problem {
             name: named(rt, name),
             clock,
             stamp: nano(rt, stamp),
+            bounds: None,
         };
         assert!(rt; problem.push_event(event).is_ok());
     }

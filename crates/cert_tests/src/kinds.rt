@@ -3,6 +3,7 @@ ghost use Rattle.std.specs.Prelude.{◌≡◌, ◌<◌, length, IfOk, IsTrue};
 ghost use Rattle.widen.specs.Named.{NamesWhat};
 ghost use Rattle.widen.specs.Widening.{IsWideningOf};
 
+use crate::bounded_events::CONTRADICTED as BOUNDED;
 use crate::widenings::{FOLLOWED, FOLLOWED_NEVER};
 use atto::Steps;
 use cert_check::{Answer, Clocks, Links, What};
@@ -31,7 +32,7 @@ const FOLLOWED_TWICE: &str =
     event p a 0\nevent q b 0\nevent r c 0\nmessage r p 0 none\nend\n";
 
 // What is widened of which problem, and by how much at least.
-const FOUND: [(&str, What, Option<u64>); 24] = [
+const FOUND: [(&str, What, Option<u64>); 28] = [
     (LACKS_5, What::Delays(Links::All), Some(3)),
     (
         LACKS_5,
@@ -76,6 +77,11 @@ const FOUND: [(&str, What, Option<u64>); 24] = [
     (FOLLOWED_NEVER, What::Gaps, None),
     (FOLLOWED_TWICE, What::Gaps, Some(12)),
     (LACKS_5, What::Gaps, None),
+    // Events have bounds of their own, which are the narrower ones.
+    (BOUNDED, What::Stamps(Clocks::All), Some(4)),
+    (BOUNDED, What::Stamps(Clocks::One(0)), Some(4)),
+    (BOUNDED, What::Stamps(Clocks::One(1)), None),
+    (BOUNDED, What::Least(Links::All), Some(7)),
 ];
 
 // The least widening of a problem, with its steps counted by this ledger.

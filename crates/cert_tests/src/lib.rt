@@ -5,9 +5,12 @@
 //! (`cert_check`); `parts` makes parts of certificates, and `fixtures` has problems, for several of them.
 //!
 //! Tests of widenings: worked texts, what judging them answers, and their faults; the least widenings of small
-//! problems; and in how many rounds that of a long one is found.
+//! problems; and in how many rounds that of a long one is found. `bounded_events` has executions, certificates and
+//! widenings of problems whose events have bounds of their own.
 #![tactic(auto)]
 
+#[cfg(test)]
+mod bounded_events;
 #[cfg(test)]
 mod certificates_read;
 #[cfg(test)]

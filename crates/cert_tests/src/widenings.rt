@@ -146,7 +146,7 @@ fn answer_with(
 }
 
 // Whether the lines of a problem, each time with another text in the place of one, have these answers.
-fn have_answers(
+pub(crate) fn have_answers(
     alloc: Global,
     problem: &str,
     lines: &[&str],
@@ -173,14 +173,14 @@ fn have_faults(
         == Err(*fault))
 }
 
-const fn cycle(reason: Reason) -> Answer {
+pub(crate) const fn cycle(reason: Reason) -> Answer {
     Answer::No {
         part: Part::Cycle,
         reason,
     }
 }
 
-const fn broken(bound: Bound, weight: i128, difference: i128) -> Answer {
+pub(crate) const fn broken(bound: Bound, weight: i128, difference: i128) -> Answer {
     Answer::No {
         part: Part::Run,
         reason: Reason::Broken {

@@ -402,7 +402,7 @@ const INTERVALS: [(&str, &str, &str, Status, &str); 16] = [
     (CROSSED, "p", "q", Status::Done, CROSSED_CYCLE),
     (CONTRADICTING_PROBLEM, "a#1", "b#1", Status::Done, CYCLE),
     (CROSSED, "z", "q", Status::UnknownName, "unknown event\n"),
-    ("problem 3\n", "p", "q", Status::BadProblem, "problem 1 1\n"),
+    ("problem 4\n", "p", "q", Status::BadProblem, "problem 1 1\n"),
 ];
 
 // How many rows, from the first on, come out as they say.

@@ -19,6 +19,13 @@ const BEFORE_ALL: &str =
     kind = \"capture\"\n[labels.b]\nhost = \"b\"\nkind = \"capture\"\n[[links]]\nfrom = \"a\"\nto = \"b\"\n\
     least = 2000000000\nmost = 2000000000\n";
 
+// The first host's clock may be off by more than its label says of the capture's stamps.
+const WITH_EXACT_STAMPS: &str =
+    "[hosts.a]\naddresses = [\"10.0.0.1\"]\nearly = 4\nlate = 9\n[hosts.b]\naddresses = [\"10.0.0.2\"]\n\
+    [labels.a]\nhost = \"a\"\nkind = \"capture\"\nearly = 0\nlate = 0\n[labels.b]\nhost = \"b\"\nkind = \"capture\"\n\
+    [[links]]\nfrom = \"a\"\nto = \"b\"\nleast = 10\nmost = 20\n\
+    [[links]]\nfrom = \"b\"\nto = \"a\"\nleast = 10\nmost = 20\n";
+
 // What there is to say of a label: host and clock of its name without an error.
 const SAID_OF_A: &[u8; 53] = b"a clock a short 0 ppb long 0 ppb early 0 ns late 0 ns";
 
@@ -174,6 +181,7 @@ fn captures_are_dated(rt: HostRuntime) -> Result<(), Fail> {
     let alloc = rt.alloc();
     assert!(rt; merges(alloc, TWO_CAPTURES_DECLARATION, &LAWFUL, 101, &BY_STAMP)?);
     assert!(rt; merges(alloc, WITH_A_SOURCE, &LAWFUL, 101, &BY_SOURCE)?);
+    assert!(rt; merges(alloc, WITH_EXACT_STAMPS, &LAWFUL, 101, &BY_STAMP)?);
     Ok(())
 }
 

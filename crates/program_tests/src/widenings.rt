@@ -143,7 +143,7 @@ fn what_is_not_there_is_not_widened(rt: HostRuntime) -> Result<(), Fail> {
         ends_so(
             alloc,
             &["widen", "p"],
-            "problem 3\n",
+            "problem 4\n",
             Status::BadProblem,
             "problem 1 1\n"
         )?
@@ -205,6 +205,14 @@ const BLAMED_BACK: &str =
     blame stamps old 10 ns\nblame rates old none\nblame stamps new 10 ns\nblame rates new none\n\
     blame delays new old none\nblame least new old none\nend\n";
 
+// The events' own bounds are narrower than those of their clock: 13 ns are between them at most, 7 too few.
+const BOUNDED_PROBLEM: &str =
+    "problem 3\nclock c 0 0 9 9\nevent p c 0 1 0\nevent q c 10 0 2\nmessage p q 20 none\nend\n";
+
+const BLAMED_BOUNDED: &str =
+    "blame delays none\nblame least 7 ns\nblame stamps 4 ns\nblame rates 700000000 ppb\nblame stamps c 4 ns\n\
+    blame rates c 700000000 ppb\nblame delays c c none\nblame least c c 7 ns\nend\n";
+
 #[test]
 fn each_candidate_is_told(rt: HostRuntime) -> Result<(), Fail> {
     let alloc = rt.alloc();
@@ -212,6 +220,7 @@ fn each_candidate_is_told(rt: HostRuntime) -> Result<(), Fail> {
     let done = Status::Done;
     assert!(rt; ends_so(alloc, &words, CONTRADICTING_PROBLEM, done, BLAMED)?);
     assert!(rt; ends_so(alloc, &words, HOPELESS_PROBLEM, done, BLAMED_LEAST)?);
+    assert!(rt; ends_so(alloc, &words, BOUNDED_PROBLEM, done, BLAMED_BOUNDED)?);
     assert!(rt; ends_so(alloc, &words, TWO_LOGS_PROBLEM, done, "blame none\n")?);
     Ok(())
 }

@@ -139,6 +139,13 @@ const CASES: [Case; 10] = [
             ("blame", "blame none\n"),
             ("time a#1", "refused 29\n"),
             ("time c#1", "refused 28\n"),
+            ("times", "refused 29\n"),
+            ("times c#1", "refused 28\n"),
+            (
+                "times a#1",
+                "times 4\na#1 0.000000000 0.000000000\na#2 80.000000000 80.000000000\nb#1 10.000000000 20.000000000\n\
+                b#2 60.000000000 70.000000000\n",
+            ),
             ("add a note.csv", ONE_EVENT),
             ("interval a#1 b#1", "interval 10.000000000 20.000000000\n"),
             ("interval a#1 a#3", "interval 40.000000000 40.000000000\n"),
@@ -148,6 +155,9 @@ const CASES: [Case; 10] = [
             ),
             ("merge a", "refused 20\n"),
             ("time", "refused 20\n"),
+            (" times", "refused 20\n"),
+            ("times ", "refused 20\n"),
+            ("times a#1 b#1", "refused 20\n"),
             ("report ", "refused 20\n"),
             ("blame a", "refused 20\n"),
             ("prove a#1", "refused 20\n"),
@@ -183,6 +193,9 @@ const CASES: [Case; 10] = [
             ("blame", TWO_LOGS_BLAME),
             ("interval a#1 b#1", CYCLE),
             ("time a#1", "refused 29\n"),
+            ("times", "refused 29\n"),
+            ("times a#1", CYCLE),
+            ("times a#9", "refused 28\n"),
             (
                 "report",
                 "{\"ambiguous\":[],\"consistent\":false,\"events\":4,\"messages\":2,\"nokey\":{\"fragment\":0,\
@@ -213,6 +226,7 @@ const CASES: [Case; 10] = [
         declaration: "",
         lines: &[
             ("merge", "merge 0\n"),
+            ("times", "refused 29\n"),
             ("problem", "problem 1\nend\n"),
             ("report", EMPTY_REPORT),
             ("blame", "blame none\n"),
@@ -225,9 +239,18 @@ const CASES: [Case; 10] = [
             ("add b b250.csv", ONE_EVENT),
             ("time b#1", "refused 29\n"),
             ("time z#1", "refused 28\n"),
+            ("times", "refused 29\n"),
             ("add r r1000.csv", added!(1, 1, 0, 0)),
             ("time b#1", "time 1010.000000000 1020.000000000\n"),
             ("time r#1", "time 1000.000000000 1000.000000000\n"),
+            (
+                "times",
+                "times 2\nb#1 1010.000000000 1020.000000000\nr#1 1000.000000000 1000.000000000\n",
+            ),
+            (
+                "times b#1",
+                "times 2\nb#1 0.000000000 0.000000000\nr#1 -20.000000000 -10.000000000\n",
+            ),
         ],
     },
     // A source and a host that nothing ties to it.
@@ -237,6 +260,14 @@ const CASES: [Case; 10] = [
             ("add b zero.csv", ONE_EVENT),
             ("add r zero.csv", ONE_EVENT),
             ("time b#1", "time -inf +inf\n"),
+            (
+                "times",
+                "times 2\nb#1 -inf +inf\nr#1 0.000000000 0.000000000\n",
+            ),
+            (
+                "times b#1",
+                "times 2\nb#1 0.000000000 0.000000000\nr#1 -inf +inf\n",
+            ),
         ],
     },
     // The time of an event is not the stamp alone.
@@ -245,6 +276,7 @@ const CASES: [Case; 10] = [
         lines: &[
             ("add r r1000.csv", ONE_EVENT),
             ("time r#1", "time 993.000000000 1005.000000000\n"),
+            ("times", "times 1\nr#1 993.000000000 1005.000000000\n"),
         ],
     },
     // At one time by label and number, and a key with a quotation mark and a backslash in it.

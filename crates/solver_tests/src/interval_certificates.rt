@@ -24,6 +24,9 @@ const DRIFT: &str =
     event p a 3000000\nevent q b 5000\nevent c1 c 70\nevent d1 d 90\nmessage p q 10 25\nmessage a1 c1 5 none\n\
     message d1 p 7 none\nend\n";
 
+// Events with bounds of their own: by those of their clock they are 3 to 17 ns apart.
+const BOUNDED: &str = "problem 3\nclock c 0 0 0 7\nevent p c 0 0 2\nevent q c 10 0 0\nend\n";
+
 // A problem, the places of two of its events, and the certificate of the interval between them.
 struct Case {
     problem: &'static str,
@@ -32,7 +35,7 @@ struct Case {
     printed: &'static str,
 }
 
-const CASES: [Case; 6] = [
+const CASES: [Case; 7] = [
     Case {
         problem: ONE_WAY_PROBLEM,
         first: 0,
@@ -93,6 +96,16 @@ const CASES: [Case; 6] = [
         event p 2998999.700100000\nevent q 2999009.700100000\nevent c1 5.000000000\nevent d1 0.000000000\n\
         reading a 1000 0.000000000\nreading a 3000000 2998999.700100000\nreading b 5000 2999007.700100000\n\
         reading c 70 5.000000000\nreading d 90 0.000000000\nend\n",
+    },
+    Case {
+        problem: BOUNDED,
+        first: 0,
+        second: 1,
+        printed: "certificate 1\nends p q\nupper 10.000000000\nstep late q 0.000000000\nstep span-most c 0 10 10.000000000\n\
+        step early p 0.000000000\nevent p 0.000000000\nevent q 10.000000000\nreading c 0 0.000000000\n\
+        reading c 10 10.000000000\nlower 8.000000000\nstep early q 0.000000000\nstep span-least c 0 10 -10.000000000\n\
+        step late p 2.000000000\nevent p 0.000000000\nevent q 8.000000000\nreading c 0 -2.000000000\n\
+        reading c 10 8.000000000\nend\n",
     },
 ];
 

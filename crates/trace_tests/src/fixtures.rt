@@ -158,6 +158,8 @@ pub(crate) fn plain_label(kind: TraceKind, host: u32, clock: u32) -> Option<Labe
         kind,
         interface: None,
         segment: None,
+        early: None,
+        late: None,
         first_subnet: 0,
         subnet_count: 0,
     })

@@ -6,8 +6,9 @@
 //! `labels` the events and messages under labels (`traces`); `matches` sends and receives of a key (`msg_match`);
 //! `labelled_matches` those under labels (`msg_match`); `problems` the problem that is made (`reference_traces`);
 //! `rosters` what is listed of events that come (`roster`); `tcp_options` the options of segments (`headers`);
-//! `vantages` what is declared of the place where a trace was taken (`decl`), `sides` the events of packets by it, and
-//! `segments` the messages of several segments (`traces`); `fixtures` has what several of them use.
+//! `vantages` what is declared of the place where a trace was taken, and `stamp_bounds` how far its stamps may be off
+//! (`decl`); `sides` the events of packets by that place, and `segments` the messages of several segments (`traces`);
+//! `fixtures` has what several of them use.
 #![tactic(auto)]
 
 #[cfg(test)]
@@ -38,6 +39,8 @@ mod rosters;
 mod segments;
 #[cfg(test)]
 mod sides;
+#[cfg(test)]
+mod stamp_bounds;
 #[cfg(test)]
 mod tcp_options;
 #[cfg(test)]

@@ -92,6 +92,25 @@ const STEPPED: [([&str; 3], &str); 2] = [
     ),
 ];
 
+// The same labels, of which two give a bound of their own stamps each, so that each event has both. The host b has two
+// clocks.
+const BOUNDED_DECLARATION: &str = "[hosts.a]\nshort = 10\nlong = 20\nearly = 1\nlate = 2\n\
+    [hosts.b]\nclocks = [{ name = \"b\", late = 5 }, { name = \"c\", gap = 4 }]\n\
+    [labels.p]\nhost = \"b\"\nkind = \"log\"\n[labels.q]\nhost = \"a\"\nkind = \"log\"\nlate = 1000\n\
+    [labels.r]\nhost = \"a\"\nkind = \"log\"\nearly = 0\n[[links]]\nfrom = \"a\"\nto = \"b\"\nleast = 10\nmost = 20\n";
+
+const BOUNDED: [([&str; 3], &str); 2] = [
+    (
+        ["", "", ""],
+        "problem 2\nclock a 10 20 1 2\nclock b 0 0 0 5\nclock c 0 0 0 0\nfollow b c 4\nend\n",
+    ),
+    (
+        ["250,receive,m,\n", "5,send,m,\n", "7,local,,\n8,local,,\n"],
+        "problem 3\nclock a 10 20 1 2\nclock b 0 0 0 5\nclock c 0 0 0 0\nfollow b c 4\nevent p#1 b 250 0 5\n\
+        event q#1 a 5 1 1000\nevent r#1 a 7 0 2\nevent r#2 a 8 0 2\nmessage q#1 p#1 10 20\nend\n",
+    ),
+];
+
 // The problem that these logs make.
 fn made(alloc: Global, decl: &Decl, logs: &[Accepted]) -> Option<Problem>
     requires { IsDeclaration (declaration_of decl.now) }
@@ -146,6 +165,16 @@ fn problems_of_several_clocks(rt: HostRuntime) {
     for (texts, wanted) in &STEPPED {
         assert!(rt;
             makes(rt.alloc(), STEPPED_DECLARATION, texts, wanted),
+            "{wanted}"
+        );
+    }
+}
+
+#[test]
+fn problems_of_labels_with_bounds(rt: HostRuntime) {
+    for (texts, wanted) in &BOUNDED {
+        assert!(rt;
+            makes(rt.alloc(), BOUNDED_DECLARATION, texts, wanted),
             "{wanted}"
         );
     }

@@ -153,7 +153,12 @@ const FAULTS: [(&str, u32, u32); 46] = [
     ),
 ];
 
-fn is_refused_with(alloc: Global, rest: &str, number: u32, index: u32) -> Result<bool, AllocError> {
+pub(crate) fn is_refused_with(
+    alloc: Global,
+    rest: &str,
+    number: u32,
+    index: u32,
+) -> Result<bool, AllocError> {
     let text = label_text(alloc, rest)?;
     Ok(is_refused(alloc, &text, number, Section::Labels, index))
 }
