@@ -43,7 +43,7 @@ class Live:
     def read(self, command: str, replies: int) -> bytes:
         """Reads so many replies to a command; the front of them."""
         end = b"\nend\n" if command in ("prove", "problem") else b"\n"
-        wanted = replies * (self.events + 1) if command == "merge" else replies
+        wanted = replies * (self.events + 1) if command in ("merge", "times") else replies
         front, last, seen = b"", b"", 0
         while seen < wanted:
             block = os.read(self.stdout.fileno(), BLOCK)

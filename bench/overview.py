@@ -51,6 +51,9 @@ def commands(events: int, runs: int, folder: str) -> Iterator[tuple[str, Figure]
         names = [line.split(" ")[1] for line in it if line.startswith("event ")]
     yield "`ends` of two events", best(runs, ["ends", problem, names[7], names[-9]], printed)
     yield "`widen`, without a contradiction", best(runs, ["widen", problem], printed)
+    asked, thinned = [names[7], names[-9]], f"{folder}/thinned"
+    yield "`thin` for two events", best(runs, ["thin", problem, *asked], thinned)
+    yield "`ends` of these in what is left", best(runs, ["ends", thinned, *asked], printed)
 
 
 class Session:
@@ -92,7 +95,8 @@ def lines(events: int, path: str) -> Iterator[tuple[str, Figure]]:
     for what in ("interval", "order", "prove"):
         yield f"`{what}`", (it.ask([f"{what} {it.event()} {it.event()}"]), None)
     yield "`time`", (it.ask([f"time {it.event()}" for _ in range(64)]), None)
-    for what in ("merge", "problem", "report"):
+    yield "`times P`", (it.ask([f"times {it.event()}"]), None)
+    for what in ("times", "merge", "problem", "report"):
         yield f"`{what}`", (it.ask([what]), it.peak if what == "report" else None)
     kept = [it.event() for _ in range(8)]
     yield "`keep`, each of eight", (it.ask([f"keep {event}" for event in kept]), it.peak)

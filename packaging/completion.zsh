@@ -3,6 +3,7 @@
 
 _tracesync_program() {
   local -a told kinds names
+  local kind
   told=(
 @TOLD@
   )
@@ -14,9 +15,12 @@ _tracesync_program() {
   case $words[2] in
 @KINDS@
   esac
-  case $kinds[CURRENT-2] in
-    ''|N) _message 'no file' ;;
-    P|Q)
+  kind=$kinds[CURRENT-2]
+  # What ends with two points may stand there again.
+  [[ -n $kind || $kinds[-1] != *.. ]] || kind=$kinds[-1]
+  case $kind in
+    ''|N|WHAT..) _message 'no file' ;;
+    P|Q|P..)
       # The first megabyte of a problem, and no device, is looked into.
       if [[ -f $words[3] ]]; then
         names=(${(f)"$(head -c 1000000 -- $words[3] | sed -n 's/^event \([A-Za-z0-9._#-]*\) .*/\1/p')"})

@@ -71,6 +71,7 @@ REPLIES: Dict[str, str] = {
     "add b c.pcapng": "added events 1 messages 0 withdrawn 1 pending 0 passed 5 consistent",
     "add c c.csv": "refused 21",
     "interval a#1 b#1": "interval -0.000000001 +inf",
+    "interval a#1 a#1": "interval 0.000000000 0.000000000",
     "interval a#1 a#2": "interval -inf 1329227995784915872903807060.280344576",
     "interval b#1 b#1": CYCLE,
     "interval a#1 a#9": "refused 28",
@@ -80,6 +81,10 @@ REPLIES: Dict[str, str] = {
     "time a#1": "time 100.000000000 +inf",
     "time a#2": "time -inf 200.500000000",
     "time b#1": "time 1.000000000 1.000000000",
+    "times": "times 3\na#1 100.000000000 +inf\na#2 -inf 200.500000000\nb#1 1.000000000 1.000000000",
+    "times a#1": "times 3\na#1 0.000000000 0.000000000\na#2 -inf 1329227995784915872903807060.280344576\nb#1 -0.000000001 +inf",
+    "times a#9": "refused 28",
+    "times b#1": CYCLE,
     "merge": "merge 3\n0.000000000 a#1\n66.000000001 b#1 a note\n66.000000001 a#2",
     "prove a#1 b#1": PROOF,
     "keep a#1": "kept 3",
@@ -114,8 +119,8 @@ if sys.argv[1] in ("blame", "widen", "judge"):
         print("blame none" if STAND_IN == "healed" else {BLAMES!r})
     sys.exit()
 if STAND_IN in ("older", "old", "forgetful"):
-    # (no session knows the line)
-    del REPLIES["blame"]
+    # (no session knows these lines)
+    REPLIES = {{line: reply for line, reply in REPLIES.items() if line.split(" ")[0] not in ("blame", "times")}}
 if STAND_IN == "healed":
     REPLIES["blame"] = "blame none"
 if STAND_IN == "deaf":

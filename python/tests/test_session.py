@@ -54,13 +54,24 @@ class Answers(StandingIn):
         self.assertEqual((session.order("b#1", "a#1"), f"{Order.SAME}", str(Order.AFTER)), ("open", "same", "after"))
 
     def test_times_of_all_events_by_label_and_number(self) -> None:
-        session = self.session()
-        session.add("b", "b.csv")
-        session.add("a", "a.csv")
-        found = session.times()
-        wanted = {"a#1": (100 * 10**9, None), "a#2": (None, 200_500_000_000), "b#1": (10**9, 10**9)}
-        self.assertEqual(([*found], dict(found)), ([*wanted], wanted))
+        by_source = {"a#1": (100 * 10**9, None), "a#2": (None, 200_500_000_000), "b#1": (10**9, 10**9)}
+        since = {"a#1": (0, 0), "a#2": (None, 2**120), "b#1": (-1, None)}
+        # (an older program is asked event by event)
+        for stands in ("", "older"):
+            with mock.patch.dict(os.environ, STAND_IN=stands):
+                session = self.session()
+                session.add("b", "b.csv")
+                session.add("a", "a.csv")
+                for found, wanted in ((session.times(), by_source), (session.times("a#1"), since)):
+                    self.assertEqual(([*found], dict(found)), ([*wanted], wanted), stands)
         self.assertEqual(session.time("a#2").greatest_ns, Fraction(401, 2))
+
+    def test_times_since_an_event_that_is_none_or_in_a_contradiction(self) -> None:
+        with self.assertRaises(Refused) as caught:
+            self.session().times("a#9")
+        self.assertEqual((caught.exception.number, caught.exception.line), (28, "times a#9"))
+        with self.assertRaises(Contradiction):
+            self.session().times("b#1")
 
     def test_a_merge_keeps_its_order_and_its_texts(self) -> None:
         found, late = self.session().merge(), 66_000_000_001
@@ -297,7 +308,7 @@ class Tables(StandingIn):
         self.assertEqual((merged.columns, merged.dtype), (["event", "label", "number", "time", "text"], object))
         self.assertEqual(merged.rows[1], ("b#1", "b", 1, 66_000_000_001, "a note"))
         self.assertEqual(timed.columns, ["event", "label", "number", "least", "greatest"])
-        self.assertEqual(timed.rows, [("a#1", "a", 1, 100 * 10**9, None), ("a#2", "a", 2, None, 200_500_000_000)])
+        self.assertEqual(timed.rows[:2], [("a#1", "a", 1, 100 * 10**9, None), ("a#2", "a", 2, None, 200_500_000_000)])
 
     @unittest.skipUnless(has_pandas(), "pandas is not there")
     def test_pandas_keeps_whole_numbers(self) -> None:

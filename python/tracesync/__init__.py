@@ -19,7 +19,7 @@ is None. What goes wrong is a `TracesyncError`:
 from .certificates import Certificate, Cycle, Proof, Step
 from .errors import Contradiction, DeclarationRefused, Ended, NoProgram, Refused, TracesyncError
 from .numbers import Interval
-from .problems import Blame, Clock, Delay, Problem, Stamped, Widening
+from .problems import Blame, Clock, Delay, Problem, StampBounds, Stamped, Widening
 from .program import find_program
 from .replies import Added, Order, Report
 from .session import Session
@@ -28,5 +28,5 @@ from .timelines import Merge, MergedEvent, Times
 __all__ = [
     "Added", "Blame", "Certificate", "Clock", "Contradiction", "Cycle", "DeclarationRefused", "Delay", "Ended",
     "Interval", "Merge", "MergedEvent", "NoProgram", "Order", "Problem", "Proof", "Refused", "Report", "Session",
-    "Stamped", "Step", "Times", "TracesyncError", "Widening", "find_program",
+    "StampBounds", "Stamped", "Step", "Times", "TracesyncError", "Widening", "find_program",
 ]  # fmt: skip

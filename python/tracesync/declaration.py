@@ -36,7 +36,7 @@ HOST, CLOCK = {*NUMBERS, "offset", "addresses", "addresses6", "clocks"}, {*NUMBE
 # the version.
 NEAR, BEYOND = {"addresses": 4, "addresses6": 6}, {"beyond": 4, "beyond6": 6}
 OF_PACKETS = {"interface", *NEAR, *BEYOND}
-LABEL, LINK = {"host", "kind", "clock", "segment", *OF_PACKETS}, {"from", "to", "least", "most"}
+LABEL, LINK = {"host", "kind", "clock", "segment", "early", "late", *OF_PACKETS}, {"from", "to", "least", "most"}
 TOP = {"fragments", "hosts", "labels", "links", "payload_bytes", "source", "tcp_options", "window"}
 ADDRESS = re.compile(r"(0|[1-9]\d{0,2})(\.(0|[1-9]\d{0,2})){3}")
 ADDRESS6 = re.compile(r"[0-9a-fA-F]{1,4}(:[0-9a-fA-F]{1,4}){7}")
@@ -81,8 +81,8 @@ def clocks_of(name: str, host: Table) -> list[tuple[Any, Table, int]]:
     return [(it.get("name"), {**own, **it}, it.get("gap", 0)) for it in tables] or [(name, own, 0)]
 
 
-def told_clock(numbers: Table, is_source: bool) -> list[str]:
-    """Returns what is declared of a clock and of its stamps, in words."""
+def told_clock(numbers: Table, is_source: bool, labels: Collection[Table] = ()) -> list[str]:
+    """Returns what is declared of a clock and of its stamps, in words; its labels may have bounds of their own."""
     short, long, early, late = (numbers.get(it) for it in NUMBERS)
     parts = []
     if not short and not long:
@@ -102,8 +102,11 @@ def told_clock(numbers: Table, is_source: bool) -> list[str]:
             parts.append(f"{few[0]} are parts per BILLION: is {few[0]}_000 meant, {few[0]} ppm?")
         if (long or 0) < wanted:
             parts.append(f"`long` is less than what belongs to `short`, {wanted:_}: is this meant?")
-    if not early and not late:
-        parts.append("stamps WITHOUT ANY ERROR: is this meant?")
+    if labels and all("early" in it and "late" in it for it in labels):
+        parts.append("how far events are from their stamps is said at its labels")
+    elif not early and not late:
+        is_said = any(it.get("early") or it.get("late") for it in labels)
+        parts.append("stamps WITHOUT ANY ERROR, but where a label has its own: is this meant?" if is_said else "stamps WITHOUT ANY ERROR: is this meant?")
     else:
         parts.append(f"events are up to {ns(early or 0)} before and {ns(late or 0)} after their stamps")
     offset = numbers.get("offset", 0)
@@ -122,8 +125,9 @@ def told_clocks(name: str, host: Table, source: Optional[str], labels: Table) ->
         else:
             since = f"{ns(gap)} after it at least" if gap else "from its last moment on"
             told = f"the clock of {name} behind {before}, {since}"
-        parts = [told, *told_clock(numbers, source == clock)]
-        if not any(it.get("clock", before is None and clock) == clock for it in own):
+        labelled = [it for it in own if it.get("clock", before is None and clock) == clock]
+        parts = [told, *told_clock(numbers, source == clock, labelled)]
+        if not labelled:
             parts.append("no label is stamped by it")
         lines.append(f"{clock}: {'; '.join(parts)}.")
         before = clock
@@ -133,7 +137,7 @@ def told_clocks(name: str, host: Table, source: Optional[str], labels: Table) ->
 def told_host(name: str, host: Table, source: Optional[str], labels: list[Table]) -> str:
     """Returns a host with its labels in words; its clocks, if it has several, are told behind it."""
     clocks = host.get("clocks", [])
-    parts = [f"{len(clocks)} clocks, one after the other"] if clocks else told_clock(host, source == name)
+    parts = [f"{len(clocks)} clocks, one after the other"] if clocks else told_clock(host, source == name, labels)
     addresses = [*host.get("addresses", []), *host.get("addresses6", [])]
     if addresses:
         parts.append(f"addresses {', '.join(addresses)}")
@@ -151,7 +155,12 @@ def told_label(name: str, label: Table, hosts: Table) -> str:
     if "clock" in label or clocks:
         first = label.get("clock") or f"its first clock, {clocks[0].get('name')}"
         told += f" and stamped by {first}"
-    return "; ".join([told, *told_place(label)]) + "."
+    return "; ".join([told, *told_bounds(label), *told_place(label)]) + "."
+
+
+def told_bounds(label: Table) -> list[str]:
+    """Returns how far a trace's events lie from their stamps, where its label has it otherwise than its clock, in words."""
+    return [f"its events are up to {ns(label[it])} {side} their stamps" for it, side in (("early", "before"), ("late", "after")) if it in label]
 
 
 def told_place(label: Table) -> list[str]:
@@ -385,6 +394,9 @@ def label_range_cause(label: Table) -> str:
         return f"it has {count} subnets, and {SUBNETS_MOST} are the most"
     if not 0 <= label.get("interface", 0) < 2**32:
         return f"interface = {label['interface']} is not from 0 to 4_294_967_295"
+    wild = [f"{it} = {label[it]}" for it in ("early", "late") if not 0 <= label.get(it, 0) < 2**62]
+    if wild:
+        return f"{wild[0]} is not from 0 to 4_611_686_018_427_387_903"
     return "there are more than 65,536 labels"
 
 
@@ -408,7 +420,7 @@ def label_cause(value: Table, name: str, table: Table, number: int) -> str:
         if table.get("kind") in ("capture", "log"):
             return f"segment = {table.get('segment')!r} is no name, which is {CHARACTERS}"
         return f"kind = {table.get('kind')!r} is neither \"capture\" nor \"log\""
-    kinds = "its values are texts in quotes, but for interface, a number, and addresses and beyond, texts in brackets"
+    kinds = "its values are texts in quotes, but for interface, early and late, numbers, and addresses and beyond, texts in brackets"
     return kinds if number == 3 else f"cause {number}"
 
 

@@ -36,6 +36,15 @@ class Stamped(NamedTuple):
     stamp: int
 
 
+class StampBounds(NamedTuple):
+    """How far an event may be from the moment of its stamp, in ns."""
+
+    early: int
+    """How much before it."""
+    late: int
+    """How much after it."""
+
+
 class Delay(NamedTuple):
     """The least and the greatest delay of a message in ns; a greatest one of None is no limit."""
 
@@ -105,6 +114,10 @@ class Problem:
     Clock(short=100, long=200, early=3, late=7)
     >>> found.events["p"], found.messages["p", "q"]
     (Stamped(clock='c', stamp=1000), Delay(least=1000, most=None))
+    >>> found.bounds_of("p")
+    StampBounds(early=3, late=7)
+    >>> read_problem(["problem 3", "clock c 100 200 3 7", "event p c 1000 0 1000000", "end"]).bounds
+    {'p': StampBounds(early=0, late=1000000)}
     """
 
     clocks: dict[str, Clock] = field(default_factory=dict)
@@ -114,6 +127,13 @@ class Problem:
     messages: dict[tuple[str, str], Delay] = field(default_factory=dict)
     """The delay of each message, by the names of its send and its receive."""
     lines: list[str] = field(default_factory=list, repr=False)
+    bounds: dict[str, StampBounds] = field(default_factory=dict)
+    """The bounds of each event, where events have bounds of their own, in place of those of their clocks; else none."""
+
+    def bounds_of(self, event: str) -> StampBounds:
+        """Returns how far an event may be from the moment of its stamp, by its own bounds, or else by those of its clock."""
+        clock = self.clocks[self.events[event].clock]
+        return self.bounds.get(event) or StampBounds(clock.early, clock.late)
 
     @property
     def text(self) -> str:
@@ -190,6 +210,8 @@ def read_problem(lines: Iterable[str]) -> Problem:
             found.follows[words[1], words[2]] = int(words[3])
         elif words[0] == "event":
             found.events[words[1]] = Stamped(words[2], int(words[3]))
+            if len(words) > 4:
+                found.bounds[words[1]] = StampBounds(int(words[4]), int(words[5]))
         elif words[0] == "message":
             most = None if words[4] == "none" else int(words[4])
             found.messages[words[1], words[2]] = Delay(int(words[3]), most)

@@ -10,7 +10,7 @@ from typing import Any, Optional
 from .starts import MAGICS, SECTION, is_capture, packed, start_of
 
 COMMANDS = {
-    "add": 2, "interval": 2, "order": 2, "time": 1, "merge": 0, "prove": 2, "keep": 1, "problem": 0, "report": 0,
+    "add": 2, "interval": 2, "order": 2, "time": 1, "times": 1, "merge": 0, "prove": 2, "keep": 1, "problem": 0, "report": 0,
     "blame": 0,
 }  # fmt: skip
 # What each refusal says of the line, or of what it asks for, without a look at a file.
@@ -95,7 +95,8 @@ class Refusals:
         count = len(words) - 1
         if words[0] == "add" and count > 2:
             return "a path has no blanks, and no quotes help: give the file another name by a link, ln -s"
-        if count != COMMANDS[words[0]]:
+        # (`times` stands alone, too)
+        if count != COMMANDS[words[0]] and (words[0], count) != ("times", 0):
             return f"`{words[0]}` has {COMMANDS[words[0]]} words behind it, and here are {count}"
         return "it has a byte that is not plain ASCII"
 

@@ -13,14 +13,18 @@ ENDS = ("declaration ", "read fault", "script limit")
 
 def is_texted(line: str) -> bool:
     """Returns whether a reply that begins with this line is a text that has a last line: a certificate, a problem, or
-    what is to blame."""
-    return line in ("certificate 1", "problem 1", "problem 2") or (line.startswith("blame ") and line != "blame none")
+    what is to blame.
+
+    >>> is_texted("problem 3"), is_texted("blame none")
+    (True, False)
+    """
+    return line in ("certificate 1", "problem 1", "problem 2", "problem 3") or (line.startswith("blame ") and line != "blame none")
 
 
 def lines_behind(first: str) -> int:
-    """Returns how many lines stand behind the first one of a reply that says so, as a merge does; 0 of others."""
+    """Returns how many lines stand behind the first one of a reply that says so, as those of `merge` and `times` do; 0 of others."""
     words = first.split(" ")
-    return int(words[1]) if words[0] == "merge" and len(words) == 2 and words[1].isdigit() else 0
+    return int(words[1]) if words[0] in ("merge", "times") and len(words) == 2 and words[1].isdigit() else 0
 
 
 def is_last(reply: Sequence[str]) -> bool:

@@ -7,6 +7,7 @@ import json
 import os
 import tempfile
 from collections.abc import Iterator
+from functools import partial
 from typing import Any, Optional, Union
 
 from .certificates import Cycle, Proof, read_cycle
@@ -17,7 +18,7 @@ from .problems import Blame, Problem, read_blames, read_problem
 from .program import LineSession
 from .refusals import CAUSES, Refusals
 from .replies import Added, Order, Report, read_added
-from .timelines import Merge, Times, read_merge
+from .timelines import Merge, Times, read_merge, read_times
 
 # What a text of a declaration is called where it is told.
 TEXT = "the declaration"
@@ -151,18 +152,28 @@ class Session:
         _, least, greatest = self._answer("time", p)[0].split(" ")
         return read_interval(least, greatest)
 
-    def times(self) -> Times:
+    def times(self, since: Optional[str] = None) -> Times:
         """Returns when each event was by the clock of the source, as `time` does, by label and number.
 
-        Each event is one question. Raises what `time` raises.
+        With `since`, it is the real time from that event to each one, as `interval` has it. All is one question; a
+        program whose sessions do not know `times` is asked event by event. Raises what `time` raises, or `interval`.
 
         >>> with Session("examples/timeline/hosts.toml") as session:
         ...     added = [session.add(it, f"examples/timeline/{it}.csv") for it in ("gate", "app", "db")]
-        ...     found = session.times()
+        ...     found, behind = session.times(), session.times("gate#1")
         >>> len(found), found["db#1"]
         (13, Interval(least=1201886999800000, greatest=1344112000000000))
+        >>> behind["gate#1"]
+        Interval(least=0, greatest=0)
         """
-        return Times((name, self.time(name)) for name in self.events())
+        try:
+            lines = self._answer("times", *([] if since is None else [since]))
+        except Refused as why:
+            if why.number != NO_COMMAND:
+                raise
+            asked = self.time if since is None else partial(self.interval, since)
+            return Times((name, asked(name)) for name in self.events())
+        return read_times(lines)
 
     def events(self) -> list[str]:
         """Returns the names of all events, by label and number.

@@ -6,7 +6,7 @@ from collections.abc import Iterable
 from fractions import Fraction
 from typing import Any, Dict, List, NamedTuple
 
-from .numbers import UNITS, Interval, read_units
+from .numbers import UNITS, Interval, read_interval, read_units
 
 
 def split_name(name: str) -> tuple[str, int]:
@@ -64,7 +64,7 @@ def read_merge(lines: list[str]) -> Merge:
 
 
 class Times(Dict[str, Interval]):
-    """When each event was by the clock of the source, at least and at most, by its name: a dictionary."""
+    """When each event was, at least and at most, by its name: by the clock of the source, or since an event. A dictionary."""
 
     def to_pandas(self) -> Any:
         """Returns a `pandas.DataFrame` with the columns `event`, `label`, `number`, `least` and `greatest`.
@@ -73,3 +73,13 @@ class Times(Dict[str, Interval]):
         """
         rows = ((name, *split_name(name), *ends) for name, ends in self.items())
         return frame(["event", "label", "number", "least", "greatest"], rows)
+
+
+def read_times(lines: list[str]) -> Times:
+    """Returns the events of a reply to `times`, by label and number.
+
+    >>> read_times(["times 2", "a#1 0.000000000 0.000000000", "b#1 25.500000000 +inf"])["b#1"]
+    Interval(least=25500000000, greatest=None)
+    """
+    words = (line.split(" ") for line in lines[1:])
+    return Times((name, read_interval(least, greatest)) for name, least, greatest in words)

@@ -56,6 +56,10 @@ class Capture:
             size //= 10
         return max(size, self.unit) if self.packets else self.unit
 
+    def digits(self) -> int:
+        """Returns the same."""
+        return self.resolution()
+
 
 def read_capture(path: str) -> Capture:
     """Returns the capture that a file holds: its whole packets up to the first fault."""

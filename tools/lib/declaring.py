@@ -1,11 +1,14 @@
 """Writes a first declaration: each line with where it comes from, and what to replace it by."""
 
 from collections import Counter
+from copy import copy, deepcopy
 from decimal import Decimal
 from math import ceil
+from typing import Self
 
 from chrony import Chrony
-from ends import ends_of
+from ends import Ends, ends_of
+from fineness import fineness_of, is_alike, of_host
 from headers import address_text, decode, interface_of
 from inputs import Input
 from placing import Placing
@@ -31,6 +34,11 @@ def rates(ppm: Decimal) -> tuple[int, int]:
 def late_of(resolution: int, long: int) -> int:
     """Returns how late an event may be for a stamp that is cut off at this many ns."""
     return -(-resolution * (10**9 + long) // 10**9)
+
+
+def bounds(resolution: int, long: int) -> list[str]:
+    """Returns the bounds of stamps that are cut off at so many ns, as lines."""
+    return ["early = 0", f"late = {spelled(late_of(resolution, long))}"]
 
 
 def spelled(number: int) -> str:
@@ -67,13 +75,33 @@ class Declaring:
         self.unknown: list[str] = []
         self.hosts = sorted({it.host for it in inputs})
         self.captures = [it for it in inputs if it.kind == "capture"]
+        # (how fine the stamps of each label are, and for which label of each host its bounds are)
+        self.fineness = fineness_of(inputs)
+        self.finest = {host: of_host(self.fineness[it.label] for it in inputs if it.host == host) for host in self.hosts}
         for name in [*self.chrony, *([self.source] if self.source else [])]:
             if name not in self.hosts:
                 raise ValueError(f"there is no host {name}, but {', '.join(self.hosts)}")
         self.vantage = Vantage(self.captures)
         self.ends = ends_of(self.captures, self.vantage)
+        # (what places say before addresses of hosts count, and which were exchanged)
+        self.first_given, self.exchanged = deepcopy(self.vantage.given), list[str]()
         self.placing = Placing(self.vantage, self.ends)
         self.without = self.without_messages()
+
+    def copy(self) -> Self:
+        """Returns the same, whose text is not written yet."""
+        found = copy(self)
+        found.unknown = []
+        return found
+
+    def placed_by(self, ends: Ends) -> Self:
+        """Returns what is declared where hosts have these addresses."""
+        found = self.copy()
+        found.vantage, found.ends = copy(self.vantage), ends
+        found.vantage.given, found.vantage.unknown = deepcopy(self.first_given), list(self.vantage.unknown)
+        found.placing = Placing(found.vantage, ends)
+        found.without = found.without_messages()
+        return found
 
     def without_messages(self) -> list[str]:
         """Returns why no packet can be a message by what is declared, as lines, where it is so and two hosts have captures."""
@@ -94,6 +122,7 @@ class Declaring:
         head = [f"# Written by tools/declare, for {files}."]
         head += ["# Every answer follows from these lines and from the files. A line that is too wide is never wrong; one that is too narrow",
                  "# makes answers that are definite and wrong. So look at each, and replace what you know better: docs/GUIDE.md, What to declare."]  # fmt: skip
+        head += [f"# EXCHANGED: {it}." for it in self.exchanged]
         head += [f"# NOT FOUND OUT: {it}." for it in self.unknown] + ["", *self.top()]
         return "\n".join([*head, *body]) + "\n"
 
@@ -180,15 +209,24 @@ class Declaring:
         return told, rounded_ppm(off)
 
     def stamps(self, name: str, long: int) -> list[str]:
-        found = [(it.content.resolution(), it) for it in self.inputs if it.host == name]
-        resolution, worst = max(found, key=lambda it: it[0])
-        what = "the kernel stamped the packet" if worst.kind == "capture" else "the program took the time"
-        lines = [f"# All stamps of {plain(worst.shown)} are whole {unit_text(resolution)}; what is below is taken to be cut off. The event is the moment at",
+        it = self.finest[name]
+        what = "the kernel stamped the packet" if it.is_capture else "the program took the time"
+        lines = [f"# All stamps of {plain(it.shown_by.shown)} are whole {unit_text(it.resolution)}; what is below is taken to be cut off. The event is the moment at",
                  f"# which {what}; for another one, as on the wire, add how far that may be."]  # fmt: skip
-        if worst.kind == "log" and resolution == 1 and len(worst.content.rows) < 3:
-            lines[0] = f"# {plain(worst.shown)} has too few rows to tell how fine its stamps are: 1 ns is the narrowest."
+        if not it.is_told:
+            lines[0] = f"# {plain(it.shown_by.shown)} has too few rows to tell how fine its stamps are: 1 ns is the narrowest."
             self.unknown.append(f"how fine the stamps of {name} are")
-        return [*lines, "early = 0", f"late = {spelled(late_of(resolution, long))}"]
+        return [*lines, *bounds(it.resolution if it.is_told else 1, long)]
+
+    def own_stamps(self, label: str, host: str) -> list[str]:
+        """Returns the bounds of a label whose stamps are not as fine as those that its host's bounds are for, or are finer."""
+        it, its_host = self.fineness[label], self.finest[host]
+        if is_alike(it, its_host):
+            return []
+        told = "All stamps" if it.is_told else "The few stamps"
+        lines = [f"# {told} of {plain(it.shown_by.shown)} are whole {unit_text(it.resolution)}; what is below is taken to be cut off. The host's bounds are for {its_host.shown_by.label}."]
+        lines += [] if it.is_capture else ["# Where a row is written later than what it tells, add how much later to `early`."]
+        return [*lines, *bounds(it.resolution, rates(self.rate(host)[1])[1])]
 
     def addresses(self, name: str) -> list[str]:
         if not any(it.host == name for it in self.captures):
@@ -216,6 +254,7 @@ class Declaring:
             if it.label not in done:
                 done.add(it.label)
                 lines += ["", table_of("labels", it.label), f'host = "{it.host}"', f'kind = "{it.kind}"']
+                lines += self.own_stamps(it.label, it.host)
                 lines += self.placing.lines(it.label)
         return lines
 

@@ -72,6 +72,10 @@ class Ends:
     def owner(self, address: bytes) -> str | None:
         return next((host for host, found in self.own.items() if address in found), None)
 
+    def with_own(self, own: dict[str, dict[bytes, str]]) -> "Ends":
+        """Returns the same with these addresses of each host."""
+        return Ends(own, self.open, self.odd)
+
 
 def find_ends(seen: list[Seen], boxes: dict[str, dict[bytes, str]] | None = None) -> Ends:
     """Returns which addresses are whose, by what each host's captures show; those of boxes, which pass packets on, are known."""

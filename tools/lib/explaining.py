@@ -79,6 +79,7 @@ class Explainer:
             "interval": lambda: self.interval(*read_interval(*words[1:3]), *names),
             "order": lambda: self.order(words[1], *names),
             "time": lambda: self.time(*read_interval(*words[1:3]), names[0]),
+            "times": lambda: f"the least and the greatest time of {count_text(int(words[1]), 'event')}, in ns: {'since ' + asked[1] if len(asked) > 1 else 'by the clock of the source'}",
             "kept": lambda: f"questions about {names[0]} are answered at once from now on (the {words[1]}. of eight that can be kept)",
             "merge": lambda: f"{count_text(int(words[1]), 'event')} in the order of one execution, the earliest: for two of them ask `order`",
             "problem": lambda: self.told_problem(reply),

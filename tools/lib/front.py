@@ -3,8 +3,8 @@
 import re
 from dataclasses import dataclass
 
-# A command of the help, with its words, the script that it reads, and what it does.
-COMMAND = re.compile(r"^  ([a-z]+)((?: [A-Z]+)*)( < SCRIPT)? {2,}(\S.*)$", re.M)
+# A command of the help, with its words, of which the last one may stand there several times, the script that it reads, and what it does.
+COMMAND = re.compile(r"^  ([a-z]+)((?: [A-Z]+)*(?:\.\.)?)( < SCRIPT)? {2,}(\S.*)$", re.M)
 # A function of a shell script, with the lines of a comment above it.
 FUNCTION = re.compile(r"(?:^#.*\n)*^(\w+)\(\) \{\n(?:.*\n)*?^\}\n", re.M)
 # What only a clone has: functions, and the lines that build the program or do without.

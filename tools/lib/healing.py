@@ -49,8 +49,8 @@ def rank(it: Blame) -> tuple[int, int]:
     return {"stamps": 1, "least": 2, "gaps": 2, "delays": 3}[it.what], least
 
 
-def widening_text(it: Blame, less: int = 0) -> str:
-    """Returns a widening in words, or one that is so much less."""
+def widening_text(it: Blame, less: int = 0, has_own: bool = False) -> str:
+    """Returns a widening in words, or one that is so much less; `has_own` is whether events have bounds of their own, by their labels."""
     number = (it.least or 0) - less
     if it.what == "gaps":
         return f"each `gap` less by {number} ns"
@@ -59,6 +59,7 @@ def widening_text(it: Blame, less: int = 0) -> str:
         return f"each `least`{which} less by {number} ns" if it.what == "least" else f"each `most`{which} greater by {number} ns"
     names = "`short` and `long`" if it.what == "rates" else "`early` and `late`"
     whose = "each clock" if it.clock is None else f"{it.clock}'s clock"
+    whose += f" and {'its labels' if it.clock else 'label'}" if has_own and it.what == "stamps" else ""
     return f"{names} of {whose} greater by {number} {it.unit}"
 
 
@@ -78,6 +79,7 @@ class Healing:
     chain: list[Step] = field(default_factory=list)
     """The contradiction that is told above."""
     cuts: dict[str, Cut] | None = None
+    has_own: bool = False
     chains: dict[Blame, list[Step]] = field(default_factory=dict)
 
     def likely(self) -> list[Blame]:
@@ -113,7 +115,7 @@ class Healing:
 
     def told(self, it: Blame, numbers: dict[frozenset[tuple[str, ...]], int]) -> list[str]:
         """Returns a widening in words, with its chain where that was not told; the numbers are those of the chains told so far."""
-        line = f"  {widening_text(it)}{set_text(it) if self.cuts is None else ''}"
+        line = f"  {widening_text(it, has_own=self.has_own)}{set_text(it) if self.cuts is None else ''}"
         steps = self.chains.get(it)
         if not steps:
             return [line]
@@ -132,7 +134,7 @@ class Healing:
             steps = self.chains.get(it)
             if steps and bounds_of(steps) not in seen:
                 seen.add(bounds_of(steps))
-                found.append((f"With {widening_text(it, 1)} no real times obey all of this: it is still too narrow by {lack_text(steps)}", steps))
+                found.append((f"With {widening_text(it, 1, self.has_own)} no real times obey all of this: it is still too narrow by {lack_text(steps)}", steps))
         return found
 
 
@@ -148,7 +150,7 @@ def lack_text(steps: list[Step]) -> str:
 
 def healing_of(problem: Problem, program: str | None, chain: list[Step] | None = None) -> Healing:
     """Returns what heals a problem, as the program says; nothing where it does not. The chain is its contradiction, if one is told already."""
-    healing = Healing([], chain or [])
+    healing = Healing([], chain or [], has_own=bool(problem.bounds))
     # (what it said before it ended is told)
     with suppress(OSError, ValueError, TracesyncError):
         healing.found = problem.blame(program) if program else []
@@ -221,9 +223,9 @@ def cut_text(problem: Problem, clock: str, later: set[str]) -> str:
         elif words[:2] == ["clock", clock]:
             lines += [line, " ".join(["clock", name, *words[2:]])]
         else:
-            lines.append(" ".join(["event", words[1], name, words[3]]) if words[0] == "event" and words[1] in later else line)
-    at = len(problem.clocks) + 1
-    return "".join(f"{line}\n" for line in ["problem 2", *lines[:at], *follows, *lines[at:]])
+            lines.append(" ".join(["event", words[1], name, *words[3:]]) if words[0] == "event" and words[1] in later else line)
+    at, head = len(problem.clocks) + 1, "problem 3" if problem.bounds else "problem 2"
+    return "".join(f"{line}\n" for line in [head, *lines[:at], *follows, *lines[at:]])
 
 
 def told_blames(lines: list[str], problem_lines: list[str] | None = None, program: str | None = PROGRAM) -> list[str]:

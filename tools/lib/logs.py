@@ -13,7 +13,11 @@ class Log:
 
     def resolution(self) -> int:
         """Returns the ns that all stamps are multiples of, at most a second; 1 where there are fewer than three rows."""
-        size = 10**9 if len(self.rows) > 2 else 1
+        return self.digits() if len(self.rows) > 2 else 1
+
+    def digits(self) -> int:
+        """Returns the same, however few rows there are; 1 where there is none."""
+        size = 10**9 if self.rows else 1
         while size > 1 and any(row[0] % size for row in self.rows):
             size //= 10
         return size

@@ -20,7 +20,7 @@ class Page:
 
 PAGES = (
     Page("tracesync", 1, "captures and logs of several hosts on one time",
-         ("Statuses", *(f"What `{it}` prints" for it in ("obey", "solve", "ends", "trial", "verify", "widen", "judge", "blame", "session", "mergecap")))),
+         ("Statuses", *(f"What `{it}` prints" for it in ("obey", "solve", "ends", "trial", "verify", "widen", "judge", "blame", "thin", "session", "mergecap")))),
     Page("tracesync-session", 5, "scripts, replies, logs and captures",
          ("Session script and replies", "Event log", "Packet capture", "Packet key")),
     Page("tracesync-declaration", 5, "hosts, clocks, stamps and links", ("Names", "Declaration")),

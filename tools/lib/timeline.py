@@ -1,7 +1,7 @@
 """The timeline of a session: its events in one execution, how far each may lie from a chosen one, and what it says of pairs.
 
-Nothing here is worked out that the program could answer: differences of real times are replies to `interval`, orders are replies to
-`order`, or follow from the ends of one interval, or of two intervals from the same event. What was not asked is said to be unknown.
+Nothing here is worked out that the program could answer: differences of real times are replies to `times` or `interval`, orders are replies
+to `order`, or follow from the ends of one interval, or of two intervals from the same event. What was not asked is said to be unknown.
 """
 
 import json
@@ -18,7 +18,7 @@ from progress import Progress
 from records import Record, records_of
 from tracesync.numbers import Interval, read_interval
 from tracesync.problems import Problem, read_problem
-from tracesync.timelines import Merge, read_merge
+from tracesync.timelines import Merge, Times, read_merge, read_times
 
 K = TypeVar("K")
 T = TypeVar("T")
@@ -31,17 +31,17 @@ FROM_MOST = 8
 DELAYS_MOST, DELAYS_LEAST, DELAYS_WORK, PAIRS_WORK = 1000, 4, 6_000_000, 3_000_000
 # How many proofs are asked for that nobody named, times the events: each reply has several lines for each event.
 PROOFS_WORK = 10_000
-# How many events of a host are asked when they were by the source: that is answered at once.
-TIMES_MOST = 4000
 # Of so few lines it is not told how many were answered.
 FEW = 20
+# The reply where the source has no event.
+NO_SOURCE = "refused 29"
 BEFORE, AFTER, SAME, OPEN = "before", "after", "same", "open"
 
 
 @dataclass
 class Event:
     """An event: its name, host, stamp in ns, time in the earliest execution in units, what it is, the same in few words,
-    its ends of `time`, and the packet or row that it is."""
+    its ends by the clock of the source, and the packet or row that it is."""
 
     name: str
     host: str
@@ -181,15 +181,14 @@ class Asking:
         return found
 
     def ends(self) -> Iterator[Question]:
-        """Yields the questions how much later each event was than each chosen one, at least and at most."""
-        names = [it.name for it in self.found.events]
-        for name in self.chosen or names[:1]:
+        """Yields the questions how much later each event was than each chosen one, at least and at most: one for each of these, which is kept."""
+        names = {it.name for it in self.found.events}
+        for name in self.chosen or [self.found.events[0].name]:
             if name not in names:
                 raise ValueError(f"there is no event {name}")
             own = self.found.ends[name] = {}
-            yield f"keep {name}", lambda words: None
-            for other in names:
-                yield f"interval {name} {other}", putting(own, other, ends_of)
+            yield f"keep {name}", lambda reply: None
+            yield f"times {name}", lambda reply, own=own: own.update(times_of(reply))
 
     def delays_of(self, problem: Problem) -> Iterator[Question]:
         """Yields the questions for the delay of each message; of a link with too many, of some that lie evenly among all."""
@@ -214,17 +213,17 @@ class Asking:
         return min(max(each, DELAYS_LEAST), DELAYS_MOST)
 
     def times(self) -> Iterator[Question]:
-        """Yields the questions when the events of other hosts were by the clock of the source, if there is one; of a great many, of some."""
-        asked = others = 0
-        for host in self.found.hosts if self.source else []:
-            own = [it for it in self.found.events if it.host == host != self.source]
-            others += len(own)
-            for it in evenly(own, TIMES_MOST):
-                asked += 1
-                # (it is refused where the source has no event)
-                yield f"time {it.name}", setting(it, "source_time", lambda words: ends_of(words) if words[0] == "time" else None)
-        if asked < others:
-            self.found.notes.append(f"{asked} of {others} events were asked when they were by the source, of each host some evenly among all")
+        """Yields the question when all events were by the clock of the source, if there is one."""
+        if self.source:
+            yield "times", self.take_times
+
+    def take_times(self, reply: list[str]) -> None:
+        """Takes when the events of other clocks were by that of the source; nothing where the source has no event."""
+        if reply != [NO_SOURCE]:
+            found = times_of(reply)
+            for it in self.found.events:
+                if it.host != self.source:
+                    it.source_time = found[it.name]
 
     def proofs(self) -> Iterator[Question]:
         """Yields the questions for proofs: of named pairs, of each two chosen events, and from the first one to some."""
@@ -269,10 +268,17 @@ class Asking:
 
 
 def ends_of(words: list[str]) -> Interval:
-    """Returns both ends that a reply to `interval` or `time` has."""
-    if words[0] not in ("interval", "time"):
+    """Returns both ends that a reply to `interval` has."""
+    if words[0] != "interval":
         raise ValueError(f"the session replied {' '.join(words)} to a question about two events")
     return read_interval(*words[1:3])
+
+
+def times_of(reply: list[str]) -> Times:
+    """Returns both ends of each event that a reply to `times` has."""
+    if not reply[0].startswith("times "):
+        raise ValueError(f"the session replied {reply[0]} to a question about all events")
+    return read_times(reply)
 
 
 def putting(found: dict[K, T], key: K, read: Callable[[list[str]], T]) -> Callable[[list[str]], None]:
@@ -284,8 +290,8 @@ def putting(found: dict[K, T], key: K, read: Callable[[list[str]], T]) -> Callab
     return take
 
 
-def setting(it: Event | Message, name: str, read: Callable[[list[str]], Interval | None]) -> Callable[[list[str]], None]:
-    """Returns what sets a field of an event or a message to what is read of the words of a reply's first line."""
+def setting(it: Message, name: str, read: Callable[[list[str]], Interval]) -> Callable[[list[str]], None]:
+    """Returns what sets a field of a message to what is read of the words of a reply's first line."""
 
     def take(reply: list[str]) -> None:
         setattr(it, name, read(reply[0].split(" ")))

@@ -183,6 +183,25 @@ class Text(unittest.TestCase):
         found, _, _ = self.declare("web=session/web.csv", "db=session/db.csv", "db.again@db=session/db-again.csv")
         self.assertEqual((sorted(found["hosts"]), found["labels"]["db.again"], "payload_bytes" in found), (["db", "web"], {"host": "db", "kind": "log"}, False))
 
+    def test_a_log_beside_a_capture_has_bounds_of_its_own(self) -> None:
+        rows = ["1780000000051000000,local,,a", "1780000000052000000,local,,b", "1780000000052000000,local,,c"]
+        with tempfile.TemporaryDirectory() as room:
+            for count, wanted in ((3, {"early": 0, "late": 1_000_101}), (1, {"early": 0, "late": 1_000_101})):
+                with open(f"{room}/rows.csv", "w") as it:
+                    it.writelines(f"{row}\n" for row in rows[:count])
+                found, _, text = self.declare("b=vantage/b.pcap", "w=vantage/w.pcap", f"rows@w={it.name}")
+                self.assertEqual(found["labels"]["rows"], {"host": "w", "kind": "log", **wanted})
+                self.assertEqual((found["hosts"]["w"]["late"], found["labels"]["w"]), (1_001, {"host": "w", "kind": "capture"}))
+                self.assertIn(f"# {'All' if count > 2 else 'The few'} stamps of {it.name} are whole 1 ms", text)
+
+    def test_the_bounds_of_a_host_are_for_its_finest_log(self) -> None:
+        with tempfile.TemporaryDirectory() as room:
+            for name, unit in (("fine", 1_000), ("coarse", 10**6)):
+                with open(f"{room}/{name}.csv", "w") as it:
+                    it.writelines(f"{number * unit},local,,\n" for number in (11, 23, 37))
+            found, _, _ = self.declare(f"coarse@a={room}/coarse.csv", f"fine@a={room}/fine.csv")
+        self.assertEqual((found["hosts"]["a"]["late"], found["labels"]["coarse"]["late"], "late" in found["labels"]["fine"]), (1_001, 1_000_101, False))
+
     def test_one_capture_alone_says_what_it_cannot_find_out(self) -> None:
         found, said, text = self.declare("left=captures/left.pcap", status=1)
         self.assertEqual(("addresses" in found["hosts"]["left"], "10.9.0.1 or 10.9.0.2" in said, "NOT FOUND OUT" in text), (False, True, True))

@@ -63,6 +63,8 @@ class Replies(unittest.TestCase):
             ("order a#1 b#1", "order after", "a#1 came after b#1, whatever happened"),
             ("keep a#1", "kept 2", "questions about a#1 are answered at once from now on (the 2. of eight that can be kept)"),
             ("merge", "merge 1\n0.000000000 a#1", "1 event in the order of one execution, the earliest: for two of them ask `order`"),
+            ("times", "times 2\na#1 0.000000000 0.000000000\nb#1 5.000000000 +inf", "the least and the greatest time of 2 events, in ns: by the clock of the source"),
+            ("times a#1", "times 1\na#1 0.000000000 0.000000000", "the least and the greatest time of 1 event, in ns: since a#1"),
             ("time a#1", "time 1795842008123456789.000000000 1795842008123456799.000000000",
              "by the clock of the source a#1 was between 2026-11-28 05:00:08.123456789 UTC and 2026-11-28 05:00:08.123456799 UTC, 10 ns apart (ns are cut off)"),
             ("blame", "blame none", "nothing contradicts what was declared, so nothing is to blame"),
@@ -90,7 +92,7 @@ class Replies(unittest.TestCase):
     def test_refusals_by_the_line(self) -> None:
         cases = (
             ("", "20", "the line is empty"), ("# a", "20", "comments"), ("merge ", "20", "blank too many"), ("merge\r", "20", "carriage return"), ("Merge", "20", "merge is"),
-            ("add a my file", "20", "a path has no blanks"), ("order a#1", "20", "2 words"), ("add web x", "21", "no label web is declared; there are left, right"),
+            ("add a my file", "20", "a path has no blanks"), ("order a#1", "20", "2 words"), ("times a#1 b#1", "20", "1 words"), ("times a#01", "28", "not of the form"), ("times", "29", "no source is declared"), ("add web x", "21", "no label web is declared; there are left, right"),
             ("add a nosuch", "22", "there is no file nosuch"), ("add a ~/x", "22", "no quotes"), ("merge\udcff", "20", "`merge?` is no command"), ("add a \udcff", "20", "a byte that is not plain ASCII"), (f"add a {EXAMPLES}", "22", "is a folder"), ("order a#01 b#1", "28", "not of the form"),
             ("order x#1 left#1", "28", "no label x is declared"), ("time left#1", "29", "no source is declared"), ("keep left#1", "30", "eight events"), ("add a x", "27", "2,097,152"),
         )  # fmt: skip
@@ -125,7 +127,8 @@ class Replies(unittest.TestCase):
     def test_replies_are_split_where_they_end(self) -> None:
         lines = ["kept 1", "merge 2", "0.000000000 a#1 end", "1.000000000 a#2", *CYCLE.split("\n"), "problem 1", "end", *FOLLOWED.split("\n"), "order open"]
         lines += ["blame none", "blame delays none", "blame stamps end none", "end", "kept 1"]
-        self.assertEqual([len(it) for it in split_replies(lines)], [1, 3, 11, 2, 8, 1, 1, 3, 1])
+        lines += ["times 2", "a#1 0.000000000 0.000000000", "end#1 -inf +inf", "times 0", "kept 1"]
+        self.assertEqual([len(it) for it in split_replies(lines)], [1, 3, 11, 2, 8, 1, 1, 3, 1, 3, 1, 1])
 
     def test_a_problem_with_clocks_that_follow(self) -> None:
         self.assertEqual(self.told("problem", FOLLOWED), "all that is declared and known: 2 clocks, 1 follow, 2 events, 1 message")
@@ -192,6 +195,8 @@ class Declarations(unittest.TestCase):
             ({"hosts": {"a": host}, "links": [{"from": "a", "to": "a"}]}, "with `least` 0"), ({"hosts": {"a": host}, "links": [{"from": "a", "to": "a", "least": 5, "most": 4}]}, "IS LESS THAN"), ({"hosts": {"a": host}}, "within 50 ppm"),
             ({"hosts": {"a": {**host, "short": 10**9}}}, "IS ABOVE 999_999_999"), ({"hosts": {"a": {**host, "short": 10**10}}}, "IS ABOVE 999_999_999"),
             ({"hosts": {"a": {**host, "offset": -5000}}, "window": 200_000_000}, "taken to be 5 us behind"), ({"hosts": {"a": {**host, "clocks": [{"name": "b", "offset": 3}]}}, "window": 7}, "taken to be 3 ns ahead"),
+            ({"hosts": {"a": {**host, "late": 0}}, "labels": {"a": {"host": "a", "kind": "log", "late": 5}}}, "WITHOUT ANY ERROR, but where a label has its own"),
+            ({"hosts": {"a": {**host, "late": 0}}, "labels": {"a": {"host": "a", "kind": "log", "early": 0, "late": 5}}}, "is said at its labels"),
             ({"hosts": {"a": host}, "window": 7}, "at most 7 ns behind"), ({"hosts": {"a": {**host, "clocks": [{"name": "b", "offset": 3}]}}}, "an `offset` DOES NOTHING"),
         )  # fmt: skip
         for value, wanted in cases:
@@ -214,6 +219,8 @@ class Declarations(unittest.TestCase):
         cases = (
             (label, "x: a capture taken at n."), ({**label, "segment": "lan"}, "x: a capture taken at n; its messages are those of the segment lan."),
             ({**label, "interface": 2}, "x: a capture taken at n; only packets of the interface 2 have keys."),
+            ({**label, "late": 2}, "x: a capture taken at n; its events are up to 2 ns after their stamps."),
+            ({**label, "early": 5_000_000, "late": 0}, "x: a capture taken at n; its events are up to 5 ms before their stamps; its events are up to 0 ns after their stamps."),
             ({**label, "addresses": ["10.0.0.1"], "beyond": ["10.3.0.0/16"], "clock": "m"},
              "x: a capture taken at n and stamped by m; near it is 10.0.0.1, and no other address of the same version; beyond it are 10.3.0.0/16."),
             ({**label, "beyond6": ["fd00:0:0:0:0:0:0:1"]}, "x: a capture taken at n; beyond it is fd00:0:0:0:0:0:0:1."),
@@ -227,8 +234,9 @@ class Declarations(unittest.TestCase):
         label, packets = '[hosts.a]\n[labels.x]\nhost = "a"\n', 'kind = "capture"\n'
         cases = (
             ('kind = "log"\nsegment = "lan"\nbeyond = []\ninterface = 1\n', 2, "a log has no packets, and so none of beyond, interface"),
-            (packets + "place = 1\n", 2, "no such key: place"), (packets + "interface = [1]\n", 3, "but for interface, a number"),
+            (packets + "place = 1\n", 2, "no such key: place"), (packets + "interface = [1]\n", 3, "but for interface, early and late, numbers"), (packets + "late = '1'\n", 3, "but for interface, early and late"),
             (packets + 'segment = "a b"\n', 4, "segment = 'a b' is no name"), (packets + "interface = 4294967296\n", 5, "interface = 4294967296 is not from 0"),
+            (packets + "early = -1\n", 5, "early = -1 is not from 0 to 4_611"), ('kind = "log"\nlate = 4611686018427387904\n', 5, "late = 4611686018427387904 is not from 0"),
             (packets + f"beyond = {[f'10.0.{it // 256}.{it % 256}' for it in range(257)]}\n".replace("'", '"'), 5, "it has 257 subnets, and 256 are the most"),
             (packets + 'beyond = ["10.0.0.1/24"]\n', 6, "10.0.0.1/24 is no address or subnet such as 10.0.0.1 or 10.0.0.0/24"),
             (packets + 'addresses = ["10.0.0.0/33"]\n', 6, "10.0.0.0/33 is no"), (packets + 'addresses = ["10.0.0.0/08"]\n', 6, "10.0.0.0/08 is no"),

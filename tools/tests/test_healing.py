@@ -163,6 +163,14 @@ class Deciding(unittest.TestCase):
         self.assertEqual(found.events[own[-1]], (f"{clock}-2", problem.events[own[-1]].stamp))
         self.assertEqual({it: found.follows[it] for it in found.follows}, {(clock, f"{clock}-2"): 0, **{(f"{clock}-2", later): gap for (_, later), gap in problem.follows.items()}})
 
+    def test_bounds_of_events_stay_and_are_told(self) -> None:
+        lines = ["problem 3", "clock a 0 20000 0 3", "event a#1 a 50 1 2", "event a#2 a 150 0 9", "end"]
+        problem = read_problem(lines)
+        text = cut_text(problem, "a", {"a#2"})
+        self.assertEqual(text.split("\n")[:6], [*lines[:2], "clock a-2 0 20000 0 3", "follow a a-2 0", lines[2], "event a#2 a-2 150 0 9"])
+        told = Healing(read_blames(["blame stamps 4 ns", "blame stamps a 5 ns", "end"]), has_own=True).lines()
+        self.assertEqual(told[1:], ["  `early` and `late` of each clock and label greater by 4 ns", "  `early` and `late` of a's clock and its labels greater by 5 ns"])
+
     def test_events_of_several_traces_go_by_their_stamps(self) -> None:
         problem = read_problem(["problem 1", "event b#1 c 9", "event b#2 c 4", "event a#1 c 5", "event d#1 d 8", "event d#2 d 3"])
         self.assertEqual((in_order(problem, "c"), in_order(problem, "d")), (["b#2", "a#1", "b#1"], ["d#1", "d#2"]))

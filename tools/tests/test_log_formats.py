@@ -204,7 +204,7 @@ class LogFormats(unittest.TestCase):
         _, _, said = self.run_log([*JOURNAL, "--all", "send", "--key", "MESSAGE"], log)
         self.assertEqual(said, "rows: 2 rows made, 0 lines left out\nrows: 1 rows send or receive and have no key: they are local\n"
                          "rows: 1 keys have more than 64 bytes: they were cut, and their sums put behind\n"
-                         "rows: no stamp is finer than 1000 ns: where a log cuts off the rest, add that much, and the drift over it, to the host's `late`\n")  # fmt: skip
+                         "rows: no stamp is finer than 1000 ns: where a log cuts off the rest, add that much, and the drift over it, to the `late` of its label\n")  # fmt: skip
 
     def test_how_fine_stamps_are(self) -> None:
         for stamp, wanted in (("1.5", "no stamp is finer than 100000000 ns"), ("1.123456789", ""), ("1.1234567891", "some stamps are finer than 1 ns")):

@@ -213,7 +213,7 @@ class Package(unittest.TestCase):
     def test_bash_completes_commands_files_and_events(self) -> None:
         (self.room / "problem.txt").write_text("problem 1\nclock c 0 0 0 0\nevent c#1 c 5\nevent d#1 c 6\nend\n")
         path = self.own / "share/bash-completion/completions/tracesync"
-        for words, wanted in (("me", "mergecap"), ("ends prob", "problem.txt"), ("ends problem.txt d", "d#1"), ("trial x", ""), ("--v", "--version"), ("what x", ""), ("session x '<' prob", "problem.txt")):
+        for words, wanted in (("me", "mergecap"), ("ends prob", "problem.txt"), ("ends problem.txt d", "d#1"), ("trial x", ""), ("thin prob", "problem.txt"), ("thin problem.txt c", "c#1"), ("thin problem.txt c#1 c#1 d", "d#1"), ("wid", "widen"), ("widen problem.txt p", ""), ("--v", "--version"), ("what x", ""), ("session x '<' prob", "problem.txt")):
             script = f'. "$0"; COMP_WORDS=(tracesync {words}); COMP_CWORD={len(words.split())}; _tracesync; echo "${{COMPREPLY[*]}}"'
             ran = subprocess.run(["bash", "-c", script, path], cwd=self.room, capture_output=True, text=True)
             self.assertEqual((ran.stdout, ran.stderr), (f"{wanted}\n", ""), words)

@@ -38,6 +38,8 @@ MERGE = """merge 5
 80.000000000 a#2"""
 REPORT = '{"ambiguous":[],"consistent":true,"events":5,"messages":2,"nokey":{"fragment":0,"local":1},"unmatched":0}'
 FROM_FIRST = {"a#1": "0.000000000 0.000000000", "b#1": "10.000000000 20.000000000", "b#2": "60.000000000 70.000000000", "b#3": "61.000000000 +inf", "a#2": "80.000000000 80.000000000"}
+# What `times` says of some events by the clock of the source.
+SOURCE_TIMES = {"a#1": "100.000000000 100.000000000", "b#1": "250.000000000 +inf"}
 
 
 # The steps of one proof, from its last event to its first: the greatest and the least time from a#1 to a#2.
@@ -72,8 +74,9 @@ class Replies:
         if words[0] == "interval":
             ends = {("a#1", "b#1"): "10.000000000 20.000000000", ("b#2", "a#2"): "10.000000000 20.000000000"}
             return [f"interval {FROM_FIRST[words[2]] if words[1] == 'a#1' else ends.get((words[1], words[2]), '-inf +inf')}"]
-        if words[0] == "time":
-            return ["time 250.000000000 +inf" if words[1] == "b#1" else "time 300.500000000 310.000000000"]
+        if words[0] == "times":
+            ends = {it: (FROM_FIRST[it] if words[1] == "a#1" else "-inf +inf") if words[1:] else SOURCE_TIMES.get(it, "300.500000000 310.000000000") for it in sorted(FROM_FIRST)}
+            return ["times 5", *(f"{name} {both}" for name, both in ends.items())]
         if words[0] == "prove":
             return proof(*words[1:])
         texts = {"merge": MERGE, "problem": PROBLEM, "report": REPORT, "keep": "kept 1", "order": "order open", "add": "added events 3 messages 0 withdrawn 0 pending 0 consistent"}
@@ -126,9 +129,16 @@ class Asking(unittest.TestCase):
         self.assertEqual([it.delay for it in found.messages], [(10 * UNITS, 20 * UNITS)] * 2)
         self.assertEqual(found.orders, {("b#2", "b#3"): "open", ("b#3", "a#2"): "open"})
 
-    def test_the_chosen_event_is_kept_before_it_is_asked_about(self) -> None:
-        asked = made()[1]
-        self.assertLess(asked.index("keep a#1"), asked.index("interval a#1 b#1"))
+    def test_a_chosen_event_is_kept_and_all_are_asked_about_by_one_line(self) -> None:
+        session = Replies()
+        found = timeline.Asking(session, [], ["a#1", "b#2"]).timeline()
+        asked = [it for it in session.asked if it.startswith(("keep", "times"))]
+        self.assertEqual(asked, ["keep a#1", "times a#1", "keep b#2", "times b#2"])
+        self.assertEqual((found.ends["a#1"]["b#3"], found.ends["b#2"]["a#1"]), ((61 * UNITS, None), (None, None)))
+
+    def test_a_chosen_event_that_is_none(self) -> None:
+        with self.assertRaisesRegex(ValueError, "there is no event b#9"):
+            timeline.Asking(Replies(), [], ["b#9"]).timeline()
 
     def test_bars_hold_the_times_that_are_drawn(self) -> None:
         found, _ = made()
@@ -149,7 +159,22 @@ class Asking(unittest.TestCase):
             timeline.Asking(Replies(), [], proved=[("a#1", "b#9")]).timeline()
 
     def test_without_a_source_no_times_are_asked(self) -> None:
-        self.assertEqual([it for it in made()[1] if it.startswith("time")], [])
+        self.assertNotIn("times", made()[1])
+
+    def test_when_events_of_other_clocks_were_by_the_source_is_one_question(self) -> None:
+        session = Replies()
+        found = timeline.Asking(session, [], source="a").timeline()
+        wanted = {"a#1": None, "a#2": None, "b#1": (250 * UNITS, None)} | dict.fromkeys(("b#2", "b#3"), (300_500_000_000, 310 * UNITS))
+        self.assertEqual(({it.name: it.source_time for it in found.events}, session.asked.count("times")), (wanted, 1))
+        self.assertFalse(any("by the source" in it for it in found.notes))
+
+    def test_a_source_without_an_event(self) -> None:
+        found = timeline.Asking(Replies(times=["refused 29"]), [], source="c").timeline()
+        self.assertEqual({it.source_time for it in found.events}, {None})
+
+    def test_a_program_that_does_not_know_the_line(self) -> None:
+        with self.assertRaisesRegex(ValueError, "the session replied refused 20 to a question about all events"):
+            timeline.Asking(Replies(times=["refused 20"]), [], source="a").timeline()
 
     def test_how_far_stamps_are_ahead_is_the_stamp_less_its_time(self) -> None:
         found = timeline.Asking(Replies(), [], source="a").timeline()

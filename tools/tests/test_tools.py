@@ -57,6 +57,7 @@ CASES = [
     (f"{TIMELINE} | tools/diagram --around web#1", 1, "", "there is no event web#1"),
     (f"{TIMELINE} | tools/diagram --around gate#1 --hosts db", 1, "", "gate#1 is at none of these hosts"),
     (f"{PART} | tools/diagram -", 0, "b#1 at 7 ns", ""),
+    (f"{{ printf 'times 2\\nend#1 0.000000000 +inf\\na#1 -inf +inf\\n'; {PART}; }} | tools/diagram -", 0, "b#1 at 7 ns", ""),
     (f"{PART} | tools/diagram --events 1", 0, "stroke-dasharray", "events 1 to 1 of 2"),
 ]
 

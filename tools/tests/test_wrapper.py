@@ -82,7 +82,7 @@ class Wrapper(unittest.TestCase):
         os.mkdir(f"{self.room}/folder")
         open(f"{self.room}/file", "w").close()
         cases = (
-            ("solve nosuch", "there is no file nosuch\n"), ("widen folder", "folder is a folder\n"), ("ends nosuch a b", "there is no file nosuch\n"), ("obey file nosuch", "there is no file nosuch\n"),
+            ("solve nosuch", "there is no file nosuch\n"), ("widen folder", "folder is a folder\n"), ("thin nosuch", "there is no file nosuch\n"), ("thin folder" + 9 * " a#1", "folder is a folder\n"), ("thin file a#1", ""), ("thin", ""), ("ends nosuch a b", "there is no file nosuch\n"), ("obey file nosuch", "there is no file nosuch\n"),
             ("verify nosuch file", "there is no file nosuch\n"), ("judge nosuch folder", "there is no file nosuch\ntracesync: folder is a folder\n"), ("session nosuch", "there is no file nosuch\n"),
             ("mergecap nosuch", "there is no file nosuch\n"), ("solve file", ""), ("trial 7", ""), ("solve", ""), ("solve nosuch nosuch", ""), ("session file", ""), ("", ""),
         )  # fmt: skip

@@ -113,7 +113,7 @@ class Rows:
         if self.without_second:
             lines.append(f"{self.without_second} lines have no second row: a field of its stamp is not there")
         if self.made and self.decimals < 9:
-            lines.append(f"no stamp is finer than {10 ** (9 - self.decimals)} ns: where a log cuts off the rest, add that much, and the drift over it, to the host's `late`")
+            lines.append(f"no stamp is finer than {10 ** (9 - self.decimals)} ns: where a log cuts off the rest, add that much, and the drift over it, to the `late` of its label")
         if self.decimals > 9:
-            lines.append("some stamps are finer than 1 ns: what is below was cut off, so add 1 to the host's `late`")
+            lines.append("some stamps are finer than 1 ns: what is below was cut off, so add 1 to the `late` of its label")
         return lines
