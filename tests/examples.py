@@ -101,13 +101,13 @@ def check(example: Example) -> None:
 
 
 def check_made() -> None:
-    """Wants the captures of examples/vantage to be those that make.py there writes."""
+    """Wants the captures and the log of examples/vantage to be those that make.py there writes."""
     with tempfile.TemporaryDirectory() as folder:
         subprocess.run([sys.executable, f"{TOP}/examples/vantage/make.py", folder], check=True)
         made = sorted(os.listdir(folder))
         for name in made:
             assert read(f"{folder}/{name}") == read(f"{TOP}/examples/vantage/{name}"), f"make.py writes another {name}"
-    print(f"vantage: {len(made)} captures as they are made")
+    print(f"vantage: {len(made)} files as they are made")
 
 
 def main() -> int:

@@ -40,10 +40,13 @@ MOST = 20
 
 def problem_of(declared: Declared, counts: dict[str, int], messages: list) -> str:
     """The text of the problem behind a session in which so many rows of each label came, and these messages."""
-    lines = [f"problem {2 if declared.follows else 1}"]
+    has_own = bool(counts) and any(declared.bounds.values())
+    lines = [f"problem {3 if has_own else 2 if declared.follows else 1}"]
     lines += [f"clock {name} " + " ".join(map(str, numbers)) for name, numbers in declared.clocks.items()]
     lines += ["follow " + " ".join(map(str, it)) for it in declared.follows]
-    lines += [f"event {name}#{n} {declared.labels[name][2]} 1" for name in counts for n in range(1, counts[name] + 1)]
+    for name, count in counts.items():
+        own = "".join(f" {it}" for it in declared.bounds_of(name))
+        lines += [f"event {name}#{n} {declared.labels[name][2]} 1{own}" for n in range(1, count + 1)]
     lines += [f"message {a}#{i} {b}#{j} {least} {most}" for ((a, i), (b, j)), (least, most) in sorted(messages)]
     return "".join(f"{it}\n" for it in [*lines, "end"])
 
@@ -162,7 +165,8 @@ host = "b"
 """
 FAULTS = [
     "more = 1", 'beyond = "10.0.0.1"', "beyond = [1]", 'clock = "c"', 'segment = ""', "interface = -1",
-    f"interface = {1 << 32}", 'addresses = ["10.0.0.1/33"]', 'addresses6 = ["fd00:0:0:0:0:0:0:1/127"]',
+    f"interface = {1 << 32}", "early = -1", f"late = {NANOS}", 'late = "1"', 'addresses = ["10.0.0.1/33"]',
+    'addresses6 = ["fd00:0:0:0:0:0:0:1/127"]',
     'beyond = ["10.0.0.1", "10.0.0.1/32"]', 'beyond6 = ["::"]', 'addresses = ["10.0.0.0/8"]\nbeyond = ["10.0.0.0/8"]',
     'addresses6 = ["0:0:0:0:0:0:0:0/0"]\nbeyond6 = ["0:0:0:0:0:0:0:0/0"]', 'addresses = [""]\nbeyond = [1.5]',
 ]  # fmt: skip
@@ -233,6 +237,9 @@ def of_places() -> Iterator[tuple[str, str]]:
         yield f"beyond6 = {value}", f"{capture}beyond6 = {value}\n"
     for number in [*NUMBERS, (1 << 32) - 1, 1 << 32, (1 << 32) + 1]:
         yield f"interface = {number}", f"{capture}interface = {number}\n"
+    for key, number in itertools.product(("early", "late"), NUMBERS):
+        yield f"{key} = {number} of a capture", f"{capture}{key} = {number}\n"
+        yield f"{key} = {number} of a log", f'late = 7\n[hosts.c]\nlate = 5\n{CAPTURE}kind = "log"\n{key} = {number}\n'
     for key, (_, is_wide) in SUBNET_KEYS.items():
         for text in subnets(is_wide):
             yield f"{key} of {text}", f'{capture}{key} = ["{text}"]\n'

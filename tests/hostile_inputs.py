@@ -49,7 +49,7 @@ NOTES = re.compile(r"(\S+ (pending \d+|passed simple \d+ obsolete \d+ other \d+)
 REPLY = re.compile(
     rf"added events \d+ messages \d+ withdrawn \d+ pending \d+ (passed \d+ )?(in)?consistent|interval ({NS}|-inf) ({NS}|\+inf)"
     rf"|order (before|after|same|open)|time ({NS}|-inf) ({NS}|\+inf)"
-    r"|kept [1-8]|merge \d+|certificate 1|problem [12]|\{.*\}"
+    r"|kept [1-8]|(merge|times) \d+|certificate 1|problem [123]|\{.*\}"
     r"|refused (2[01237-9]|30|24 [12]|2[56] \d+( [1-4])?|31 \d+)"
 )
 
@@ -79,6 +79,8 @@ message a#1 b#1 10 20
 message b#2 a#2 10 20
 end
 """
+# The same with bounds of each event.
+OWN = re.sub("^(event .*)$", r"\1 3 0", BAD.replace("problem 1", "problem 3"), flags=re.MULTILINE)
 DECLARATION = """source = "a"
 payload_bytes = 8
 [hosts.a]
@@ -113,9 +115,11 @@ OTHER = b"150,receive,m1,x\r\n\r\n260,send,m2,\n"
 QUESTIONS = """interval one#1 two#1
 order one#1 two#1
 time two#1
+times
 merge
 prove one#1 two#2
 keep one#1
+times one#1
 problem
 report
 """
@@ -129,6 +133,7 @@ CAPTURE_SCRIPT = """add left it
 add right right.pcap
 interval left#1 right#1
 order left#2 right#2
+times right#1
 merge
 report
 problem
@@ -162,6 +167,7 @@ COMMANDS = {
         Command(["solve", "it"], "empty", {0, 4}),
         Command(["ends", "it", "a#1", "b#1"], "empty", {0, 4, 11}),
         Command(["widen", "it"], "empty", {0, 4}),
+        Command(["thin", "it", "a#1"], "empty", {0, 4, 11}),
     ],
     "execution": [Command(["obey", "p", "it"], "empty", {0, 1, 5})],
     "certificate": [Command(["verify", it, "it"], "empty", {0, 1, 6}) for it in ("p", "bad")],
@@ -256,6 +262,8 @@ Inputs = dict[str, bytes | str]
 def problems() -> Inputs:
     """Small problems, by their titles."""
     found = {"two clocks of a host": PROBLEM, "a contradiction": BAD, "no events": "problem 1\nend\n"}
+    found |= {"bounds of events": OWN, "bounds of events, and follows": PROBLEM.replace("problem 2", "problem 3")}
+    found |= {f"a bound of {it}": OWN.replace("event a#2 a 180 3 0", f"event a#2 a 180 {it} {it}") for it in LIMITS}
     found |= {f"a stamp of {it}": PROBLEM.replace("event a#2 a 195", f"event a#2 a {it}") for it in LIMITS}
     found |= {f"a delay of {it}": PROBLEM.replace(" 10 200", f" 0 {it}") for it in LIMITS}
     found |= {f"a rate of {it}": PROBLEM.replace("20000 20001", f"{it} {it}") for it in (999_999_999, 10**9, 10**9 + 1)}
@@ -331,6 +339,8 @@ def large_problems() -> Iterator[tuple[str, str]]:
     upward = "".join(f"follow c{it - 1:x} c{it:x} 1\n" for it in range((1 << 16) - 1, 0, -1))
     events = "".join(f"event e{it:x} a {it}\n" for it in range(MANY))
     yield "many events", f"problem 1\nclock a 0 0 0 0\n{events}end\n"
+    own = "".join(f"event e{it:x} a {it} {it} 7\n" for it in range(MANY))
+    yield "many events with bounds", f"problem 3\nclock a 0 0 0 0\n{own}end\n"
     yield "many clocks", f"problem 1\n{clocks[0]}end\n"
     yield "one clock too many", f"problem 1\n{clocks[1]}end\n"
     yield "a long chain, from its end", f"problem 2\n{clocks[0]}{upward}end\n"

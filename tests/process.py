@@ -141,7 +141,8 @@ for said, later in (("b#1 10.", "b#1 21."), ("250 10.", "250 21."), ("b#2 60.", 
     BROKEN = BROKEN.replace(said, later)
 USAGE = (
     "usage: tracesync obey PROBLEM EXEC | solve PROBLEM | ends PROBLEM P Q | verify PROBLEM CERT | session DECL"
-    " | trial N | widen PROBLEM WHAT.. | judge PROBLEM WIDENING | blame PROBLEM | mergecap DECL [pcapng] | --help | --version\n"
+    " | trial N | widen PROBLEM WHAT.. | judge PROBLEM WIDENING | blame PROBLEM | thin PROBLEM P.. | mergecap DECL [pcapng]"
+    " | --help | --version\n"
 )
 with open(f"{TOP}/crates/commands/src/help.rt", encoding="utf-8") as source:
     HELP = source.read().split('HELP: &[u8] = br"', 1)[1].split('\n";', 1)[0] + "\n"
@@ -173,12 +174,14 @@ def statuses(room: Room) -> None:
         (0, ["obey", "problem.txt", "execution.txt"], "", "obeys\n"),
         (0, ["ends", "problem.txt", "a#1", "b#1"], "", "10.000000000 20.000000000 before\n"),
         (0, ["verify", "problem.txt", "solved.txt"], "", "yes\n"),
+        (0, ["thin", "problem.txt", "a#1", "a#1"], "", PROBLEM),
         (0, ["mergecap", "hosts.toml"], "", EMPTY_CAPTURE),
         (0, ["--help"], "", HELP),
         (0, ["--version"], "", f"tracesync {NEWEST}\n"),
         (1, ["obey", "problem.txt", "broken.txt"], "", "broken delay-most a#1 b#1 20.000000000 21.000000000\n"),
         (2, [], "", USAGE),
         (2, ["session"], ADDS, USAGE),
+        (2, ["thin"], "", USAGE),
         (3, ["session", "bad.toml"], ADDS, "declaration 1 top 0\n"),
         (3, ["session", "/dev/zero"], "", "declaration 8 top 0\n"),
         (4, ["solve", "empty.txt"], "", "problem 1 1\n"),
@@ -187,6 +190,7 @@ def statuses(room: Room) -> None:
         (7, ["solve", "absent.txt"], "", "read fault\n"),
         (7, ["session", "absent.toml"], "", "read fault\n"),
         (11, ["ends", "problem.txt", "a#1", "c#1"], "", "unknown event\n"),
+        (11, ["thin", "problem.txt", "a#1", "c#1", "b#1"], "", "unknown event\n"),
         (12, ["mergecap", "hosts.toml"], "merge\n", "refused 20\n"),
     ]
     for status, words, script, out in rows:
@@ -204,7 +208,7 @@ def full_outputs(room: Room) -> None:
         (8, ["obey", problem, "execution.txt"], b""), (8, ["solve", problem], b""),
         (8, ["ends", problem, "a#1", "b#1"], b""), (8, ["verify", problem, "solved.txt"], b""),
         (8, ["session", "hosts.toml"], b"x\n"), (8, ["trial", "7"], b""), (8, ["widen", problem], b""),
-        (8, ["judge", problem, "empty.txt"], b""), (8, ["mergecap", "hosts.toml"], b""), (8, [], b""),
+        (8, ["judge", problem, "empty.txt"], b""), (8, ["thin", problem], b""), (8, ["mergecap", "hosts.toml"], b""), (8, [], b""),
         # (a session without a line prints nothing, and so loses nothing)
         (0, ["session", "hosts.toml"], b""),
     ]

@@ -6,7 +6,7 @@ says.
 
 CONTRADICTIONS, 300 if it is not said, are made from the numbers from SEED, 1 if it is not said, upward; a number whose
 problem has an execution is passed over, once `blame` says so. Each has two or three clocks, of which some follow each
-other, and a few events and messages, with numbers so small that the least widening of most candidates is, too. The
+other, and a few events and messages, some problems with bounds of each event, with numbers so small that the least widening of most candidates is, too. The
 reference is the plainest there is: the problem's text with the numbers of a candidate greater, or less, by 0, 1, 2 and
 so on, and the earliest values over its bounds; beyond 400 what is left is halved. `judge` must say yes to what `widen`
 prints, and no to another number. Every fourth problem is also made logs and a declaration of, and the session's `blame`
@@ -44,7 +44,7 @@ What = tuple[str, ...]
 def drawn(draw: Random) -> Lines:
     """A problem of a few lines, made from times that it would allow, with some numbers put wrong."""
     clocks = {clock: draw.randrange(40) for clock in ["a", "b", "c"][: draw.choice((2, 2, 3))]}
-    lines = []
+    lines, has_own = [], draw.random() < 0.3
     for clock in clocks:
         short, long, early, late = (draw.choice((0, 0, draw.randint(1, 9))) for _ in range(4))
         lines.append(f"clock {clock} {short} {long} {early} {late}")
@@ -55,7 +55,8 @@ def drawn(draw: Random) -> Lines:
     wrong = 1 if chain and draw.random() < 0.5 else 25
     for event, time in times.items():
         stamp = time + clocks[event[0]] + draw.choice((0, 0, 0, 0, min(draw.randrange(20), wrong - 1)))
-        lines.append(f"event {event} {event[0]} {stamp}")
+        own = f" {draw.choice((0, 0, draw.randint(1, 9)))} {draw.choice((0, 0, draw.randint(1, 9)))}" if has_own else ""
+        lines.append(f"event {event} {event[0]} {stamp}{own}")
     for send, sent in times.items():
         for receive, received in times.items():
             taken = received - sent
@@ -63,7 +64,7 @@ def drawn(draw: Random) -> Lines:
                 least = max(taken - draw.choice((0, 4, 20)), 0) + draw.choice((0, 0, 0, draw.randrange(wrong)))
                 most = max(least, taken - min(draw.choice((0, 0, 10)), wrong - 1)) + draw.choice((0, 5))
                 lines.append(f"message {send} {receive} {least} {draw.choice(('none', most))}")
-    return [f"problem {2 if chain else 1}", *lines, "end"]
+    return [f"problem {3 if has_own else 2 if chain else 1}", *lines, "end"]
 
 
 def drawn_times(draw: Random, clocks: Lines, chain: Lines) -> dict[str, int]:
@@ -102,6 +103,8 @@ def widened_line(words: Lines, clock_of: dict[str, str], what: What, extra: int)
         else:
             short, long = min(short + extra, UNITS - 1), min(long + extra, UNITS)
         return [*words[:2], *map(str, (short, long, early, late))]
+    if words[0] == "event" and kind == "stamps" and names in ([], [words[2]]):
+        return [*words[:4], *(str(min(int(it) + extra, MOST)) for it in words[4:])]
     if words[0] == "follow" and kind == "gaps":
         return [*words[:3], str(max(int(words[3]) - extra, 0))]
     if words[0] == "message" and kind in ("delays", "least") and names in ([], [clock_of[words[1]], clock_of[words[2]]]):

@@ -5,12 +5,12 @@
 
 SESSIONS, 200 if it is not said, have the numbers from SEED, 1 if it is not said, upward; `random_sessions.py 1 N`
 runs number N alone. Each has up to four hosts with logs of one label and more, which sort otherwise than their hosts;
-some hosts have up to four clocks, one after the other, and their labels name them or not; half of the declarations have
-a window, and offsets that are about true or not. Rows come late, with lower stamps, with stamps that contradict the
+some hosts have up to four clocks, one after the other, and their labels name them or not; in some declarations labels
+have bounds of their own, and half have a window, and offsets that are about true or not. Rows come late, with lower stamps, with stamps that contradict the
 declared bounds, and with keys that were sent or received before, which withdraws messages; events are kept in between.
 Behind each addition the problem must be the one that a plain model of the session has, and what is asked must follow
-from its text: intervals, orders, times and merges as support/problems.py works them out, and, one of each, as `ends`
-and `solve` print them; `blame` is `blame none` where the problem has an execution, and else what the command `blame`
+from its text: intervals, orders, times, those of all events too, and merges as support/problems.py works them out, and,
+one of each, as `ends` and `solve` print them; `blame` is `blame none` where the problem has an execution, and else what the command `blame`
 prints of the text; certificates must be accepted by `verify`, and cycles also by check_cycle.py.
 
 PROGRAM names the program whose sessions are tried, else it is the one that is built here; PATH is another one for
@@ -50,7 +50,12 @@ Row = tuple[int, str, str, str]  # a stamp, a kind, a key and a text
 def drawn_numbers(draw: Random) -> dict[str, Any]:
     """The numbers of a clock, by their keys."""
     drifts = [draw.choice((0, 0, 20_000, 100_000_000)) for _ in range(2)]
-    return {"short": drifts[0], "long": drifts[1], "early": draw.choice((0, 0, 3, 40)), "late": draw.choice((0, 5, 50))}
+    return {"short": drifts[0], "long": drifts[1], **drawn_bounds(draw)}
+
+
+def drawn_bounds(draw: Random) -> dict[str, int]:
+    """How many ns events lie before and behind their stamps."""
+    return {"early": draw.choice((0, 0, 3, 40)), "late": draw.choice((0, 5, 50))}
 
 
 class Declared:
@@ -71,6 +76,10 @@ class Declared:
         self.clock_of: dict[str, str] = {}
         self.named: set[str] = set()  # labels that name their clocks
         self.draw_labels(draw)
+        # (what some labels say of their own events, one of the two or both)
+        self.bounds: dict[str, dict[str, int]] = {label: {} for label in self.labels}
+        if draw.random() < 0.4:
+            self.draw_bounds(draw)
         self.links: dict[tuple[str, str], tuple[int, int | None]] = {}
         self.draw_links(draw)
 
@@ -99,6 +108,17 @@ class Declared:
                 if clock != clocks[0] or draw.random() < 0.5:
                     self.named.add(label)
         self.labels = {label: found[label] for label in sorted(found)}
+
+    def draw_bounds(self, draw: Random) -> None:
+        """Draws what labels say of the bounds of their own events."""
+        for label in self.labels:
+            if draw.random() < 0.6:
+                self.bounds[label] = {key: value for key, value in drawn_bounds(draw).items() if draw.random() < 0.7}
+
+    def bounds_of(self, label: str) -> tuple[int, int]:
+        """How many ns the events of a label lie before and behind their stamps."""
+        _, _, early, late = self.clocks()[self.clock_of[label]]
+        return self.bounds[label].get("early", early), self.bounds[label].get("late", late)
 
     def drawn_tables(self, draw: Random, host: str, names: list[str]) -> list[dict[str, Any]]:
         """The tables of the clocks of a host, of which one may have the host's name; what a table does not say is the
@@ -155,7 +175,8 @@ class Declared:
                 lines += [f"[[hosts.{host}.clocks]]", *values]
         for label, host in self.labels.items():
             clock = [f'clock = "{self.clock_of[label]}"'] if label in self.named else []
-            lines += [f'[labels.{label}]\nhost = "{host}"\nkind = "log"', *clock]
+            bounds = [f"{key} = {value}" for key, value in self.bounds[label].items()]
+            lines += [f'[labels.{label}]\nhost = "{host}"\nkind = "log"', *clock, *bounds]
         for (one, other), (least, most) in self.links.items():
             greatest = [] if most is None else [f"most = {most}"]
             lines += [f'[[links]]\nfrom = "{one}"\nto = "{other}"\nleast = {least}', *greatest]
@@ -166,7 +187,7 @@ class Traces:
     """The pieces of all logs in the order in which they come, drawn at random: pairs of a label and its rows."""
 
     def __init__(self, draw: Random, declared: Declared) -> None:
-        self.draw, self.declared, self.clocks = draw, declared, declared.clocks()
+        self.draw, self.declared = draw, declared
         # (from when to when each clock is its host's; a stamp is some 50 ns wrong at most)
         self.spans: dict[str, tuple[int, int]] = {}
         gaps = {later: gap for _, later, gap in declared.follows()}
@@ -205,7 +226,7 @@ class Traces:
     def put(self, label: str, time: int, kind: str, key: str) -> None:
         """Puts an event into a log, with a stamp that is lawful for its time, or with any."""
         clock = self.declared.clock_of[label]
-        _, _, early, late = self.clocks[clock]
+        early, late = self.declared.bounds_of(label)
         stamp = time + self.offsets[clock] + self.draw.randint(-late, early)
         if self.draw.random() < self.wrong:
             stamp += self.draw.randint(-400, 400)
@@ -298,10 +319,13 @@ class Held:
     def problem(self) -> list[str]:
         """The lines of the problem."""
         follows = self.declared.follows()
-        lines = ["problem 2" if follows else "problem 1"]
+        has_own = bool(self.events()) and any(self.declared.bounds.values())
+        lines = [f"problem {3 if has_own else 2 if follows else 1}"]
         lines += [f"clock {name} " + " ".join(map(str, numbers)) for name, numbers in self.declared.clocks().items()]
         lines += [f"follow {earlier} {later} {gap}" for earlier, later, gap in follows]
-        lines += [f"event {name} {self.declared.clock_of[label]} {row[0]}" for name, label, row in self.events()]
+        for name, label, row in self.events():
+            own = [str(it) for it in self.declared.bounds_of(label)] if has_own else []
+            lines.append(" ".join(["event", name, self.declared.clock_of[label], str(row[0]), *own]))
         for send, receive in self.messages():
             least, most = self.declared.links.get((self.host(send), self.host(receive)), (0, None))
             lines.append(f"message {send} {receive} {least} {'none' if most is None else most}")
@@ -392,6 +416,7 @@ class State:
                 "interval": self.check_interval,
                 "order": self.check_order,
                 "time": self.check_time,
+                "times": self.check_times,
                 "prove": self.check_prove,
                 "merge": self.check_merge,
             }
@@ -401,7 +426,8 @@ class State:
         """The refusal of a question, if it is refused."""
         if any(it not in self.names for it in events):
             return "refused 28"
-        return "refused 29" if command == "time" and self.source_reading() is None else None
+        by_source = command == "time" or (command == "times" and not events)
+        return "refused 29" if by_source and self.source_reading() is None else None
 
     def source_reading(self) -> tuple[str, int] | None:
         """A reading of the source's clock, or None."""
@@ -429,13 +455,21 @@ class State:
     def check_order(self, line: str, reply: list[str], first: str, second: str) -> None:
         want(line, reply, [f"order {order(self.answers.ends(first, second))}"])
 
-    def check_time(self, line: str, reply: list[str], event: str) -> None:
+    def time_of(self, event: str) -> Ends:
+        """When an event was by the clock of the source."""
         reading = self.source_reading()
         assert reading is not None
         least, greatest = self.answers.ends(reading, event)
         stamp = reading[1] * 10**9
-        ends: Ends = (None if least is None else least + stamp, None if greatest is None else greatest + stamp)
-        want(line, reply, [f"time {interval(ends)}"])
+        return None if least is None else least + stamp, None if greatest is None else greatest + stamp
+
+    def check_time(self, line: str, reply: list[str], event: str) -> None:
+        want(line, reply, [f"time {interval(self.time_of(event))}"])
+
+    def check_times(self, line: str, reply: list[str], *since: str) -> None:
+        ends = [self.answers.ends(*since, name) if since else self.time_of(name) for name in self.names]
+        lines = [f"{name} {interval(both)}" for name, both in zip(self.names, ends)]
+        want(line, reply, [f"times {len(lines)}", *lines])
 
     def check_prove(self, line: str, reply: list[str], first: str, second: str) -> None:
         least, greatest = self.answers.ends(first, second)
@@ -468,7 +502,8 @@ def questions(draw: Random, names: list[str], kept: list[str]) -> list[str]:
         pairs += [(chosen, name) for name in names]
     lines = [f"{draw.choice(('interval', 'interval', 'order'))} {one} {other}" for one, other in pairs]
     lines += [f"prove {one} {other}" for one, other in draw.sample(pairs, 2)]
-    lines += [f"time {draw.choice(names)}" for _ in range(3)] + ["merge", "report", "blame"]
+    lines += [f"time {draw.choice(names)}" for _ in range(3)] + ["times", f"times {draw.choice(kept or names)}"]
+    lines += [f"times {draw.choice(names)}", "merge", "report", "blame"]
     return draw.sample(lines, draw.randint(1, len(lines)))
 
 

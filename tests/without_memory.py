@@ -37,16 +37,21 @@ COMMANDS: list[tuple[list[str], str | None]] = [
     (["verify", "examples/first-hour/contradiction.txt", "examples/first-hour/cycle.cert"], None),
     (["verify", "examples/first-hour/problem.txt", "examples/first-hour/ends.cert"], None),
     (["blame", "examples/first-hour/contradiction.txt"], None),
+    (["thin", "examples/first-hour/problem.txt", "db#2", "web#2"], None),
+    (["thin", "examples/guide/restarted.txt"], None),
     (["session", "examples/session/hosts.toml"], "examples/session/script.txt"),
     (["session", "examples/session/hosts.toml"], "examples/session/healed.txt"),
     (["session", "examples/captures/hosts.toml"], "examples/captures/script.txt"),
 ]
 
 
-QUESTIONS = ["interval a#1 b#1", "order a#1 b#1", "merge", "problem", "prove a#1 b#1", "report", "time a#1", "blame"]
+QUESTIONS = [
+    "interval a#1 b#1", "order a#1 b#1", "merge", "problem", "prove a#1 b#1", "report", "time a#1", "times", "times b#1",
+    "blame",
+]  # fmt: skip
 CLOCK_QUESTIONS = [
     "interval before#1 after#1", "order before#3 after#2", "merge", "problem", "prove before#3 after#1", "report",
-    "time after#3", "blame",
+    "time after#3", "times", "times gate#2", "blame",
 ]  # fmt: skip
 
 Files = dict[str, bytes]  # the files of a session by their names

@@ -25,7 +25,10 @@ SUBNET_KEYS = {
     "addresses": (False, False), "addresses6": (False, True), "beyond": (True, False), "beyond6": (True, True),
 }  # fmt: skip
 CAPTURE_KEYS: dict[str, type] = {"interface": int, **{it: list for it in SUBNET_KEYS}}
-LABEL_KEYS: dict[str, type] = {"host": str, "kind": str, "clock": str, "segment": str, **CAPTURE_KEYS}
+STAMP_KEYS: dict[str, type] = {"early": int, "late": int}
+LABEL_KEYS: dict[str, type] = {
+    "host": str, "kind": str, "clock": str, "segment": str, **STAMP_KEYS, **CAPTURE_KEYS,
+}  # fmt: skip
 LINK_KEYS = {"from": str, "to": str, "least": int, "most": int}
 TOP_KEYS = {
     "fragments": bool, "hosts": dict, "labels": dict, "links": list, "payload_bytes": int, "source": str,
@@ -184,6 +187,7 @@ class Declared:
         self.follows: list[tuple[str, str, int]] = []
         self.labels: dict[str, tuple[str, str, str]] = {}
         self.segments: dict[str, str] = {}
+        self.bounds: dict[str, dict[str, int]] = {}
         self.links: dict[tuple[str, str], tuple[int, int | str]] = {}
         self.addresses: set[tuple[int, ...]] = set()
 
@@ -239,6 +243,12 @@ class Declared:
         """Whether two labels name one segment, or neither names one."""
         return self.segments[one] == self.segments[other]
 
+    def bounds_of(self, label: str) -> tuple[int, ...]:
+        """How many ns events of a label lie before and behind their stamps, where one label or more says it; else nothing."""
+        own = self.bounds[label]
+        clock = dict(zip(RATES, self.clocks[self.labels[label][2]]))
+        return tuple(own.get(it, clock[it]) for it in STAMP_KEYS) if any(self.bounds.values()) else ()
+
     def read_label(self, name: str, label: Table, place: int) -> None:
         look(label, LABEL_KEYS, ["host", "kind"])
         want(all(type(it) is str for key in SUBNET_KEYS for it in label.get(key, [])), 3)
@@ -248,10 +258,12 @@ class Declared:
         want(is_label and clock in clocks and is_name(label.get("segment", "none")), 4)
         want(label["kind"] == "capture" or not any(it in label for it in CAPTURE_KEYS), 2)
         want(place <= ENTRIES and is_number(label, "interface", (1 << 32) - 1), 5)
+        want(all(is_number(label, it) for it in STAMP_KEYS), 5)
         want(sum(len(label.get(it, [])) for it in SUBNET_KEYS) <= SUBNETS, 5)
         look_at_subnets(label)
         self.labels[name] = (label["host"], label["kind"], clock)
         self.segments[name] = label.get("segment", "")
+        self.bounds[name] = {it: label[it] for it in STAMP_KEYS if it in label}
 
     def read_link(self, link: Table, place: int) -> None:
         look(link, LINK_KEYS, ["from", "to"])

@@ -51,8 +51,8 @@ def order(ends: Ends) -> str:
 
 
 class Problem:
-    """Clocks, events and messages by their names, the follow that leads to a clock, and the stamps that each clock
-    shows."""
+    """Clocks, events and messages by their names, the follow that leads to a clock, the stamps that each clock shows,
+    and how many ns events lie before and behind theirs, where they have bounds of their own."""
 
     def __init__(self, lines: Sequence[str]) -> None:
         self.clocks: dict[str, list[int]] = {}
@@ -60,6 +60,7 @@ class Problem:
         self.events: dict[str, Reading] = {}
         self.messages: dict[tuple[str, str], tuple[int, int | None]] = {}
         self.readings: set[Reading] = set()
+        self.bounds: dict[str, tuple[int, int]] = {}
         for line in lines:
             kind, *words = line.split(" ")
             if kind == "clock":
@@ -69,6 +70,8 @@ class Problem:
             elif kind == "event":
                 self.events[words[0]] = (words[1], int(words[2]))
                 self.readings.add((words[1], int(words[2])))
+                if len(words) > 3:
+                    self.bounds[words[0]] = (int(words[3]), int(words[4]))
             elif kind == "message":
                 most = None if words[3] == "none" else int(words[3])
                 self.messages[words[0], words[1]] = (int(words[2]), most)
@@ -107,7 +110,7 @@ class Problem:
     def stamped(self, kind: str, name: str) -> Bound:
         """How far an event is from its reading: `late` or `early`."""
         reading = self.events[name]
-        _, _, early, late = self.clocks[reading[0]]
+        early, late = self.bounds.get(name) or self.clocks[reading[0]][2:]
         if kind == "late":
             return reading, name, late * UNITS
         return name, reading, early * UNITS

@@ -13,7 +13,7 @@ def replies_of(lines: Sequence[str]) -> list[list[str]]:
         first = lines[at].split(" ")
         if first[0] in ("certificate", "problem") or (first[0] == "blame" and first != ["blame", "none"]):
             end = lines.index("end", at) + 1
-        elif first[0] == "merge":
+        elif first[0] in ("merge", "times"):
             end = at + 1 + int(first[1])
         else:
             end = at + 1
