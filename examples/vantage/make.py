@@ -8,6 +8,7 @@ offset, runs at its own rate and cuts off what is below 1 us. So it is known wha
 
 nat: host a, a box that translates its address, seen on both sides, and server f. pods: a pod of node k1, seen there on
 all interfaces at once, and a pod of node k2. mirror: client c, and a mirror port of the switch to which it is joined.
+rows: browser b, and server w with a log beside its packets, whose stamps are cut off to whole ms.
 """
 
 import argparse
@@ -148,6 +149,24 @@ def write_mirror(folder: str) -> None:
     m.write(f"{folder}/m.pcap")
 
 
+def write_rows(folder: str) -> None:
+    """The server writes a row once it has accepted, answered and closed, by the clock of its capture."""
+    draw, ends = random.Random("rows"), (("192.168.1.10", 40_002), ("192.168.1.30", 80))
+    clock, rows, told = Clock(51_400_000, -17), list[str](), {702: "accepted", 704: "GET /ready 200", 706: "closed"}
+    b, w = Capture(ETHERNET, Clock(-230_000_000, 28)), Capture(ETHERNET, clock)
+    for packet, times in conversation(draw, (40_000, 75_000)):
+        frame = ethernet(packet.between(*ends, 64), packet.asks, 1, 2)
+        b.sees(times[0], frame)
+        w.sees(times[1], frame)
+        if packet.ident in told:
+            stamp = clock.shows(times[1] + draw.randrange(5_000, 20_000)) // 1000 * 10**6
+            rows.append(f"{stamp},local,,{told[packet.ident]}\n")
+    b.write(f"{folder}/b.pcap")
+    w.write(f"{folder}/w.pcap")
+    with open(f"{folder}/w-rows.csv", "w", encoding="ascii") as it:
+        it.writelines(rows)
+
+
 def main() -> None:
     parser = argparse.ArgumentParser(description=__doc__.split("\n\n")[0])
     parser.add_argument("folder", metavar="FOLDER", help="where the captures are written")
@@ -155,6 +174,7 @@ def main() -> None:
     write_nat(folder)
     write_pods(folder)
     write_mirror(folder)
+    write_rows(folder)
 
 
 if __name__ == "__main__":
