@@ -28,7 +28,7 @@ value_up_to : (z : ℤ) → IsUnder (path_bits + 1) z → IsUpTo (path_bits + 2)
 value_up_to z (low, high) = (omega (arith, ints, low), omega (arith, ints, high))
 
 pub values_up_to : (zs : List ℤ) → All (IsUnder (path_bits + 2)) zs → All (IsUpTo (path_bits + 2)) zs
-values_up_to zs small i d inside = up_to 117 (get_or zs i d) (small i d inside)
+values_up_to zs small i d inside = up_to (path_bits + 2) (get_or zs i d) (small i d inside)
 
 pub weights_up_to : (steps : List Step) → All (λ s. IsUnder 93 s.weight) steps → All (λ s. IsUpTo 93 s.weight) steps
 weights_up_to steps small i d inside = up_to 93 (get_or steps i d).weight (small i d inside)
@@ -36,7 +36,7 @@ weights_up_to steps small i d inside = up_to 93 (get_or steps i d).weight (small
 -- ---- texts
 -- the most bytes of an end: its first line, fewer steps than there are nodes, and a real time for each node
 abbrev pub end_bytes : ℕ
-end_bytes = 45 + (most_nodes - 1) * 149 + most_nodes * 100
+end_bytes = 46 + (most_nodes - 1) * 149 + most_nodes * 101
 
 pub three : (a b c : List ℕ) → length (a ++ b ++ c) ≡ length a + (length b + length c)
 three a b c = omega (arith, length-append (a ++ b) c, length-append a b)

@@ -80,7 +80,7 @@ module _ (m nodes : ℕ) (few : m ≤ 2 ^ path_bits) (values : List ℤ) (c : Ce
 module _ (l : Listed) (p : ProblemLists) (readings : List Reading) (g : GraphLists) (stands : StandsForListed l p readings g) (is : IsGraph g) (values : List ℤ)
     (c : Cells) (sizes : AreWithinHeight (length g.nodes * 2 ^ 93) (length g.nodes) values c)
   where
-    -- a graph has no more than 2^22 nodes
+    -- a graph has no more than 2^25 nodes
     low_height : length g.nodes * 2 ^ 93 ≤ 2 ^ path_bits
     low_height = height_low (length g.nodes) is.node_limit
 

@@ -54,7 +54,7 @@ IsLowerCut p first inside = (clock : ℕ) → Contains inside clock ↔ ((n : No
 abbrev pub IsUnder : ℕ → ℤ → Type 0
 IsUnder bits x = (neg_ℤ (pos (2 ^ bits)) <ℤ x) × (x <ℤ pos (2 ^ bits))
 
--- the limit is below 2^116 in absolute value, the weights are below 2^93 and the real times below 2^117
+-- the limit is below 2^119 in absolute value, the weights are below 2^93 and the real times below 2^120
 abbrev pub IsSmallEnd : EndLists → Type 0
 IsSmallEnd (Limited value path execution) = IsUnder (path_bits + 1) value × All (λ s. IsUnder 93 s.weight) path × All (IsUnder (path_bits + 2)) execution
 IsSmallEnd (Unlimited inside execution) = All (IsUnder (path_bits + 2)) execution

@@ -88,7 +88,7 @@ pub record ListsGraph (l : Listed) (g : GraphLists) : Type 0 where
   pub rising : AllPairs (λ (r s : ℕ × ℕ × ℕ). r.0 ≤ s.0) l.readings
 
 -- ---- sizes
--- values and known distances are at most 2^115 in absolute value
+-- values and known distances are at most 2^118 in absolute value
 pub record AreMiddling (nodes : ℕ) (values : List ℤ) (c : Cells) : Type 0 where
   pub at_nodes : (k : ℕ) → k < nodes → IsUpTo path_bits (at values k)
   pub distances : (k : ℕ) → c.known k ≡ true → IsUpTo path_bits (c.value k)

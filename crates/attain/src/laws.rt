@@ -35,8 +35,8 @@ pub fn listed_problems()
 
 /// What is written is read again as a certificate that shows what it should, and is refused for want of memory alone: of
 /// the ends of an interval, of a contradiction with no more bounds than there are nodes, of the earliest execution. Its
-/// numbers are in range, its weights below 2^93 and its real times below 2^117 in absolute value, those of the earliest
-/// execution below 2^116, and its text is not too long. So checking it answers yes.
+/// numbers are in range, its weights below 2^93 and its real times below 2^120 in absolute value, those of the earliest
+/// execution below 2^119, and its text is not too long. So checking it answers yes.
 pub fn accepted()
     ensures fits { (p : ProblemLists) (readings : List Reading) (first second : ℕ) (upper lower : EndLists) → AreTight p readings first second upper lower
         → IsProblem p → AreReadings p readings → FitsEndLists upper × FitsEndLists lower }
@@ -62,7 +62,7 @@ pub fn accepted()
 {}
 
 /// Declared bounds of a problem that lead from one node to another, onward or back, in fewer steps than it has nodes, have a
-/// sum below 2^115 in absolute value, in units of 1e-9 ns.
+/// sum below 2^118 in absolute value, in units of 1e-9 ns.
 pub fn short_paths()
     ensures onward { (p : ProblemLists) (readings : List Reading) (m n : Node) (steps : List WeighedBound) → Leads p m steps n
         → length steps < length (nodes_of p readings) → IsProblem p → AreReadings p readings → IsUnder path_bits (weight_of steps) }

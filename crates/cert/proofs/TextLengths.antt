@@ -44,8 +44,8 @@ ns_short : (k m : ℕ) (z : ℤ) → 0 < k → m < 10 ^ k * 1000000000 → neg_�
 ns_short k m (pos n) some small low high = let short = unsigned_short k n some (omega (arith, ints, small, high)) in omega (arith, short)
 ns_short k m (negsuc n) some small low high = let short = unsigned_short k (suc n) some (omega (arith, ints, small, low)) in omega (arith, short)
 
-pub value_short : (z : ℤ) → IsUpTo (path_bits + 2) z → length (ns_text z) ≤ 38
-value_short z small = ns_short 27 (2 ^ (path_bits + 2)) z (omega arith) (omega arith) small.0 small.1
+pub value_short : (z : ℤ) → IsUpTo (path_bits + 2) z → length (ns_text z) ≤ 39
+value_short z small = ns_short 28 (2 ^ (path_bits + 2)) z (omega arith) (omega arith) small.0 small.1
 
 pub weight_short : (z : ℤ) → IsUpTo 93 z → length (ns_text z) ≤ 30
 weight_short z small = ns_short 19 (2 ^ 93) z (omega arith) (omega arith) small.0 small.1
@@ -142,7 +142,7 @@ module _ (p : ProblemLists) (lawful : IsProblem p) where
 
   -- ---- real times
   abbrev IsShortAt : Node → Type 0
-  IsShortAt n = (z : ℤ) → IsUpTo (path_bits + 2) z → length (value_line p (n, z)) ≤ 100
+  IsShortAt n = (z : ℤ) → IsUpTo (path_bits + 2) z → length (value_line p (n, z)) ≤ 101
 
   at_event : (e : ℕ) → IsShortAt (nodes.Event e)
   at_event e z small =
@@ -165,7 +165,7 @@ module _ (p : ProblemLists) (lawful : IsProblem p) where
       (All-map IsShortAt (λ (r : Reading). nodes.Reading r.0 r.1) readings
       (λ i d inside. (let r : Reading = get_or readings i d in at_reading r.0 r.1 (reading_fits p r.0 r.1 lawful (are.each r.0 r.1 (Contains-get_or readings i d inside))))))
 
-  timed_short : (ns : List Node) (zs : List ℤ) → All IsShortAt ns → All (IsUpTo (path_bits + 2)) zs → length (value_lines p ns zs) ≤ length ns * 100
+  timed_short : (ns : List Node) (zs : List ℤ) → All IsShortAt ns → All (IsUpTo (path_bits + 2)) zs → length (value_lines p ns zs) ≤ length ns * 101
   timed_short [] zs short small = omega arith
   timed_short (n ∷ ns) [] short small = omega arith
   timed_short (n ∷ ns) (z ∷ zs) short small =
@@ -173,5 +173,5 @@ module _ (p : ProblemLists) (lawful : IsProblem p) where
       let rest = timed_short ns zs (All-tail IsShortAt n ns short) (All-tail (IsUpTo (path_bits + 2)) z zs small) in
       omega (arith, here, rest, length-append (value_line p (n, z)) (value_lines p ns zs))
 
-  pub values_short : (readings : List Reading) (zs : List ℤ) → AreReadings p readings → All (IsUpTo (path_bits + 2)) zs → length (value_lines p (nodes_of p readings) zs) ≤ length (nodes_of p readings) * 100
+  pub values_short : (readings : List Reading) (zs : List ℤ) → AreReadings p readings → All (IsUpTo (path_bits + 2)) zs → length (value_lines p (nodes_of p readings) zs) ≤ length (nodes_of p readings) * 101
   values_short readings zs are small = timed_short (nodes_of p readings) zs (at_nodes readings are) small

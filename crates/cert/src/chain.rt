@@ -16,7 +16,7 @@ pub struct Step {
     pub weight: Units,
 }
 
-/// At most 2^23 steps, one after another: a cycle or a path of difference constraints.
+/// At most 2^26 steps, one after another: a cycle or a path of difference constraints.
 #[derive(Drop)]
 pub struct Chain {
     held: Vec<Step>,

@@ -9,17 +9,17 @@ use line_format::{FaultKind, LineError};
 pub enum CertError {
     /// It has another form than its place asks for, or a name or number in it is misspelled.
     #[error("line {0} is none of the forms that may stand there")]
-    Syntax(u32),
+    Syntax(u64),
     /// A name, or a clock and stamp, is not the one that stands there, or not the problem's.
     #[error("line {0} names what does not stand there")]
-    Name(u32),
+    Name(u64),
     /// A number is out of its range.
     #[error("line {0} has a number out of its range")]
-    Range(u32),
+    Range(u64),
     /// There is one step too many in a list. An execution is never refused so.
     #[error("line {0} is one too many of its kind")]
-    Limit(u32),
-    /// The text has more than 2^31 bytes.
+    Limit(u64),
+    /// The text has more than 2^34 bytes.
     #[error("the text is too long")]
     Long,
     /// Memory ran out.
@@ -28,7 +28,7 @@ pub enum CertError {
 }
 
 /// The error of a text by that of a line.
-pub fn error_at(fault: LineError, line: u32) -> CertError
+pub fn error_at(fault: LineError, line: u64) -> CertError
     ensures { result ≡ error_at fault line }
 {
     match fault {

@@ -6,7 +6,7 @@ use atto::Units;
 use std::alloc::{AllocError, Global};
 use std::marker::Model;
 
-/// At most 2^22 real times in units of 1e-9 ns, each at most 2^120 in absolute value. That of a problem has one for
+/// At most 2^25 real times in units of 1e-9 ns, each at most 2^120 in absolute value. That of a problem has one for
 /// each node, in the order of the nodes.
 #[derive(Drop)]
 pub struct Execution {

@@ -1,5 +1,5 @@
 // The text of an execution, line by line.
-ghost use Rattle.std.specs.Prelude.{◌≡◌, ◌↔◌, ◌<◌, ◌≤◌, ◌++◌, ℕ, List, length, ℤ};
+ghost use Rattle.std.specs.Prelude.{◌≡◌, ◌↔◌, ◌<◌, ◌≤◌, ◌++◌, ◌+◌, ℕ, List, length, ℤ};
 ghost use Rattle.line_format.specs.Words.{line_of};
 ghost use Rattle.line_format.specs.Format.{Takes, Answers, Answer, most_text_bytes};
 ghost use Rattle.line_format.specs.Format.Answer.{Found};
@@ -93,6 +93,14 @@ pub fn take_line(nodes: &Nodes<'_>, values: &mut Execution, body: &[u8]) -> Resu
     }
 }
 
+// The number of the line behind those of these values.
+fn line_behind(values: &Execution) -> u64
+    ensures is { result ≡ length values.now + 2 }
+    ensures few { result ≤ most_nodes + 2 }
+{
+    u64::from(values.len()) + 2
+}
+
 // The lines behind the head, which is line 1.
 fn read_lines(alloc: Global, nodes: &Nodes<'_>, lines: &[u8]) -> Result<Execution, CertError>
     requires { length (line_of execution_head ++ lines.now) ≤ most_text_bytes }
@@ -101,7 +109,7 @@ fn read_lines(alloc: Global, nodes: &Nodes<'_>, lines: &[u8]) -> Result<Executio
     let mut values = Execution::new(alloc);
     let mut rest = lines;
     while let Some((body, after)) = cut(b'\n', rest) {
-        let line = values.len() + 2;
+        let line = line_behind(&values);
         match take_line(nodes, &mut values, body) {
             Ok(Taken::Line) => {}
             Ok(Taken::End) => {
@@ -114,7 +122,7 @@ fn read_lines(alloc: Global, nodes: &Nodes<'_>, lines: &[u8]) -> Result<Executio
         }
         rest = after;
     }
-    Err(CertError::Syntax(values.len() + 2))
+    Err(CertError::Syntax(line_behind(&values)))
 }
 
 fn read_text(alloc: Global, nodes: &Nodes<'_>, text: &[u8]) -> Result<Execution, CertError>
@@ -130,7 +138,7 @@ fn read_text(alloc: Global, nodes: &Nodes<'_>, text: &[u8]) -> Result<Execution,
 }
 
 /// The execution of a problem that a text spells, or the first fault of the text: `Syntax`, `Name` or
-/// `Range` with its line, and `Long` beyond 2^31 bytes. `Limit` never comes, and `Memory` only where
+/// `Range` with its line, and `Long` beyond 2^34 bytes. `Limit` never comes, and `Memory` only where
 /// memory runs out.
 pub fn read_execution(alloc: Global, p: &Problem, text: &[u8]) -> Result<Execution, CertError>
     ensures { Reads p.now text.now result }

@@ -173,7 +173,7 @@ fn read_lines(alloc: Global, p: &Problem, lines: &[u8]) -> Result<Cert, CertErro
     let _ = p.readings();
     let mut parts = Parts::Nothing;
     let mut rest = lines;
-    let mut line: u32 = 2;
+    let mut line: u64 = 2;
     while let Some((body, after)) = cut(b'\n', rest) {
         match take(alloc, p, parts, body) {
             Ok(Next::More(more)) => parts = more,
@@ -204,7 +204,7 @@ fn read_text(alloc: Global, p: &Problem, text: &[u8]) -> Result<Cert, CertError>
 }
 
 /// The certificate of a problem that a text spells, or the first fault of the text: `Syntax`, `Name`, `Range` or
-/// `Limit` with its line, and `Long` beyond 2^31 bytes. `Memory` comes only where memory runs out.
+/// `Limit` with its line, and `Long` beyond 2^34 bytes. `Memory` comes only where memory runs out.
 pub fn read_cert(alloc: Global, p: &Problem, text: &[u8]) -> Result<Cert, CertError>
     ensures { ReadsCert p.now text.now result }
 {

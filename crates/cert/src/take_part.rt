@@ -53,7 +53,7 @@ fn weight_of(words: &StepWords) -> Option<Units>
 }
 
 /// Puts the step of a line behind the others. `Name` comes where the problem declares no such bound, else `Range` where the
-/// weight is out of range, else `Limit` behind 2^23 steps; `Memory` where memory runs out.
+/// weight is out of range, else `Limit` behind 2^26 steps; `Memory` where memory runs out.
 pub fn push_step(p: &Problem, steps: &mut Chain, words: &StepWords) -> Result<(), LineError>
     ensures { (n : NamedBound) (z : ℤ) → HoldsStep words.now n z → TakesStep p.now steps.old n z result steps.new }
 {

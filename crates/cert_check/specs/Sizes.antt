@@ -15,13 +15,13 @@ abbrev pub IsSmallVerdict : Verdict → Type 0
 IsSmallVerdict Obeys = Unit {0}
 IsSmallVerdict (Broken bound weight difference) = (unsigned_abs weight < 2 ^ 93) × (unsigned_abs difference ≤ 2 ^ 121)
 
--- the sum of a chain that was walked over is below 2^116
+-- the sum of a chain that was walked over is below 2^119
 abbrev pub IsSmallWalk : Walk → Type 0
 IsSmallWalk (Astray step) = Unit {0}
 IsSmallWalk (Misweighed step) = Unit {0}
 IsSmallWalk (Arrived held) = unsigned_abs held.sum < 2 ^ walk_bits
 
--- a reason tells sums below 2^116, weights below 2^93 and differences of at most 2^121
+-- a reason tells sums below 2^119, weights below 2^93 and differences of at most 2^121
 abbrev pub IsSmallReason : Reason → Type 0
 IsSmallReason (reasons.Sum sum) = unsigned_abs sum < 2 ^ walk_bits
 IsSmallReason (reasons.Broken bound weight difference) = (unsigned_abs weight < 2 ^ 93) × (unsigned_abs difference ≤ 2 ^ 121)

@@ -25,7 +25,7 @@ pub enum Reason {
     /// One more than the steps stands for a path that does not end at the first event.
     Join(u32),
     /// The sum of the steps' weights, which is not negative in a cycle, or not what the end of the interval asks for. It
-    /// is below 2^116 in absolute value.
+    /// is below 2^119 in absolute value.
     Sum(i128),
     /// The first bound of the short list that the execution breaks, its weight, which is below 2^93 in absolute value,
     /// and what `x_to - x_from` is, at most 2^121.

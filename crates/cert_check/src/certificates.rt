@@ -76,7 +76,7 @@ fn ends_answer(p: &Problem, first: u32, second: u32, upper: &EndProof, lower: &E
 
 /// Whether a cycle is a contradiction of `p` where it is widened by `extra` ns, or parts per billion of rates, or the first
 /// reason why it is not: no steps, then for each step its weight, which is to be that of the widened problem, and its join,
-/// then the sum, which is below 2^116 in absolute value. It takes no memory.
+/// then the sum, which is below 2^119 in absolute value. It takes no memory.
 pub fn check_cycle(p: &Problem, what: What, extra: Nano, c: &Chain) -> Answer
     requires { All (IsStepOf p.now) c.now }
     ensures answer { IsAnswer (widened what p.now extra) (certs.Cycle c.now) result }
@@ -92,7 +92,7 @@ pub fn check_cycle(p: &Problem, what: What, extra: Nano, c: &Chain) -> Answer
 /// each step its weight and its join, then the sum; of an execution the first bound of the short list that it breaks; of
 /// the end of an interval, the upper one first, for each step its join and its weight, then the last join, the sum, the
 /// execution and its difference, or the clocks of the two events, the bounds that leave the cut, and the execution.
-/// Sums that it tells are below 2^116 in absolute value, weights below 2^93, differences at most 2^121. It takes no memory.
+/// Sums that it tells are below 2^119 in absolute value, weights below 2^93, differences at most 2^121. It takes no memory.
 pub fn check(p: &Problem, c: &Cert) -> Answer
     requires { IsCertOf p.now c.now }
     ensures answer { IsAnswer p.now c.now result }

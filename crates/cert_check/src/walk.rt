@@ -45,7 +45,7 @@ fn exit(part: Part, bound: &Declaration) -> Node
     }
 }
 
-/// Where a walk has come to, and the sum of the weights so far in units of 1e-9 ns, below 2^116 in absolute value.
+/// Where a walk has come to, and the sum of the weights so far in units of 1e-9 ns, below 2^119 in absolute value.
 #[derive(Clone, Copy, Debug, PartialEq, Eq)]
 pub struct Held {
     pub node: Node,
@@ -69,7 +69,7 @@ fn onward(part: Part, held: Held, bound: &Declaration, taken: usize) -> Held
 
 /// Walks over the steps from a node, in an upper part against their bounds and elsewhere along them. Each step must be
 /// entered where the walk has come to, and have the weight of its bound where the problem is widened by `extra`. The
-/// sum of all is below 2^116 in absolute value. It takes no memory.
+/// sum of all is below 2^119 in absolute value. It takes no memory.
 pub fn walk_over(
     p: &Problem,
     what: What,

@@ -80,7 +80,7 @@ pub record IsLeft (values : List ℤ) (a : Arc) (front front' : List (Option ℤ
 abbrev pub IsMarkedBy : List ℤ → Arc → List (Option ℤ) → List (Option ℤ) → List ℕ → List ℕ → ℕ → ℕ → Type 0
 IsMarkedBy values a front front' found found' count count' = IsLeft values a front front' found found' count count' ⊎ IsMarkedTail values a front front' found found' count count'
 
--- values before a withdrawal: one for each node, none below 0 or above 2^115
+-- values before a withdrawal: one for each node, none below 0 or above 2^118
 pub record AreLow (nodes : ℕ) (values : List ℤ) : Type 0 where
   pub one_each : length values ≡ nodes
   pub non_negative : IsNonNegative (at values)

@@ -10,7 +10,7 @@ use Rattle.line_format.specs.declared.fault.Taken.TheVariants as taken
 
 -- the most bytes of a text that is read
 abbrev pub most_text_bytes : ℕ
-most_text_bytes = 2 ^ 31
+most_text_bytes = 2 ^ 34
 
 -- A format: a head, then lines that say what is so far said, then the end.
 -- A State is what the lines so far say; a Line has its numbers as large as they are written.
@@ -113,7 +113,7 @@ pub data Answer (State : Type 0) : Type 0 where
   Long : Answer State
 
 module _ {State Line : Type 0} (f : Format State Line) where
-  -- the answer is right: a text of at most 2^31 bytes is that of a lawful state or has this first fault, and a longer
+  -- the answer is right: a text of at most 2^34 bytes is that of a lawful state or has this first fault, and a longer
   -- one is too long
   abbrev pub Answers : List ℕ → Answer State → Type 0
   Answers text (Found s) = (length text ≤ most_text_bytes) × f.IsSound s × f.MayStand s f.end × (text ≡ whole_text f s)

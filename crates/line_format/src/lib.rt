@@ -13,5 +13,5 @@ mod parts;
 pub use fault::{FaultKind, LineError, Taken};
 pub use parts::{cut, five_words, four_words, three_words};
 
-/// The most bytes of a text that is read: 2^31, so that lines are counted in 32 bits and a text is held in memory.
-pub const MOST_BYTES: usize = 1 << 31;
+/// The most bytes of a text that is read: 2^34. It is held in memory whole.
+pub const MOST_BYTES: usize = 1 << 34;

@@ -18,7 +18,7 @@ pub struct Change {
     pub withdrawn: Vec<Couple>,
 }
 
-/// How many messages there are, and how many events that are unmatched or have ambiguous keys. Each is at most 2^22.
+/// How many messages there are, and how many events that are unmatched or have ambiguous keys. Each is at most 2^25.
 #[derive(Clone, Copy, Debug, PartialEq, Eq)]
 pub struct Tallies {
     /// Messages, each counted once.

@@ -19,7 +19,7 @@ use std::marker::Model;
 use traces::Key;
 
 /// Events by their keys, and which of them are a message. It is seen as the list of all events that were added, at
-/// most 2^22.
+/// most 2^25.
 ///
 /// Two events are a message where one is the only send of a key and the other the only receive of that key.
 #[derive(Drop)]
@@ -186,7 +186,7 @@ impl KeyMatcher {
         sum(&self.groups)
     }
 
-    // How many keys are ambiguous, at most 2^22.
+    // How many keys are ambiguous, at most 2^25.
     pub(crate) fn groups(&self) -> u32
         ensures { result ≡ length (ambiguous_groups self.now) }
     {

@@ -14,7 +14,7 @@ use std::alloc::{AllocError, Global};
 use std::marker::Model;
 
 /// The events that are ends of messages, and which of them are a message. It is seen as the list of all events that
-/// were added, at most 2^22.
+/// were added, at most 2^25.
 ///
 /// Events of one key are of one group. Where their keys have moments, the events of one message and one window are
 /// ordered by their times, and neighbours that lie the window apart at most are of one group. Two events are a
@@ -106,7 +106,7 @@ impl Matcher {
     /// Adds events, and answers how they change the messages. Where memory runs out there is an error, and all is as
     /// before.
     ///
-    /// No two events have the same number, those before included, and there are at most 2^22 in all. A message that
+    /// No two events have the same number, those before included, and there are at most 2^25 in all. A message that
     /// comes and goes again within the events added is in neither list. Where no event has a moment, the time goes by
     /// the events that are added; for each, a key is looked up among all by some log n comparisons, whatever the keys
     /// are. Where one has, all n events are grouped anew, in some n log n comparisons.
@@ -133,7 +133,7 @@ impl Matcher {
         self.by_group.tallies()
     }
 
-    /// How many groups are ambiguous, at most 2^22.
+    /// How many groups are ambiguous, at most 2^25.
     pub fn groups(&self) -> u32
         ensures { result ≡ length (ambiguous_groups (grouped_items self.now)) }
     {

@@ -18,7 +18,7 @@ use Rattle.problem_model.specs.declared.items.Event.{Event}
 use Rattle.problem_model.specs.Problem.{ProblemLists, IsProblem, empty_problem}
 use Rattle.problem_model.specs.ProblemText.{problem_text, problem_head, followed_head, own_head, plain_head, have_bounds, head_words, clock_line, follow_line, event_line, message_line}
 use Rattle.problem.specs.declared.errors.ProblemError.TheVariants as problems
-use Rattle.problem.specs.Line.{head_with, AreBounded, IsInOrder, IsSaid, HasItsOwn, open_text, open_lines, problem_format}
+use Rattle.problem.specs.Line.{head_with, AreBounded, IsInOrder, IsSaid, HasWhatItNeeds, open_text, open_lines, problem_format}
 use Rattle.problem.proofs.Taking.{clocks_in_order}
 use Rattle.problem.proofs.Growing.{alike_as_first}
 use Rattle.problem.specs.declared.version.Version.{Version}
@@ -109,7 +109,7 @@ each_bounded (e ∷ events) all some = rw all.0 refl
 plain_is : (p : ProblemLists) (head : List (List ℕ)) → AreBounded false p.events → head ≡ plain_head p.follows → head ≡ head_words p.follows p.events
 plain_is p head bounded is = rw (none_bounded p.events (recursion_from_All (λ e. is_some e.bounds ≡ false) p.events bounded)) is
 
-head_is : (version : Version) (p : ProblemLists) → IsSaid version p → HasItsOwn version p → head_with version ≡ head_words p.follows p.events
+head_is : (version : Version) (p : ProblemLists) → IsSaid version p → HasWhatItNeeds version p → head_with version ≡ head_words p.follows p.events
 head_is First p said has = plain_is p problem_head said.1.1 (sym (ap plain_head said.1.0))
 head_is Second p said has = plain_is p followed_head said.1.1 (followed p.follows has)
   where
@@ -119,7 +119,7 @@ head_is Second p said has = plain_is p followed_head said.1.1 (followed p.follow
 head_is Third p said has = rw (each_bounded p.events (recursion_from_All (λ e. is_some e.bounds ≡ true) p.events said.1.1) has) refl
 
 -- the text with its end is that of the problem
-pub whole_is : (version : Version) (p : ProblemLists) → IsSaid version p → HasItsOwn version p → whole_text (problem_format version) p ≡ problem_text p
+pub whole_is : (version : Version) (p : ProblemLists) → IsSaid version p → HasWhatItNeeds version p → whole_text (problem_format version) p ≡ problem_text p
 whole_is version p said has =
     let rest = flat_map (follow_line p.clocks) p.follows ++ flat_map (event_line p.clocks) p.events in
     let end = line_of (codes "end" ∷ []) in
@@ -141,7 +141,7 @@ found_reads text p answers = elim (second_or_not text) [
 
 -- whether events have bounds, and whether there is a follow, tells the version
 abbrev IsOf : ProblemLists → Type 0
-IsOf p = (version : Version) × IsInOrder version p × HasItsOwn version p
+IsOf p = (version : Version) × IsInOrder version p × HasWhatItNeeds version p
 
 plain_version : (p : ProblemLists) → AreBounded false p.events → IsOf p
 plain_version p bounded = elim (none_or_some p.follows) [

@@ -15,7 +15,7 @@ use Rattle.problem_model.specs.ChainNumbers.{with_follow}
 use Rattle.problem_model.specs.Problem.{ProblemLists, IsProblem, LeadsOn, ClockFits, EventFits, MessageFits, empty_problem}
 use Rattle.problem_model.specs.ProblemText.{clock_line, follow_line, event_line, message_line, event_name, clock_name}
 use Rattle.problem.specs.Growing.{HasRoomForEvent, with_clock, with_event, with_message}
-use Rattle.problem.specs.Line.{Line, HasClock, HasEvent, HasItsOwn, MayFollow, MayStand, IsSpelled, NamesFit, NumbersFit, HasRoomForLine, AreBounded, are_own, IsInPlace, IsSaid, line_words, problem_format}
+use Rattle.problem.specs.Line.{Line, HasClock, HasEvent, HasWhatItNeeds, MayFollow, MayStand, IsSpelled, NamesFit, NumbersFit, HasRoomForLine, AreBounded, are_own, IsInPlace, IsSaid, line_words, problem_format}
 use Rattle.problem.specs.Line.Line.{ClockLine, FollowLine, EventLine, OwnLine, MessageLine, EndLine}
 use Rattle.problem.specs.Reading.{AnswersProblem}
 use Rattle.problem.specs.declared.version.Version.{Version}
@@ -101,12 +101,12 @@ some_of : {A : Type 0} (xs : List A) → Snoc xs → xs ≢ []
 some_of xs s none = let count : length xs ≡ length s.front + 1 = ap length s.is ∙ length-append s.front (s.last ∷ []) in let no : length xs ≡ 0 = ap length none in omega (arith, count, no)
 
 -- ---- what a version asks for
-has_by : (version : Version) (p : ProblemLists) → IsInPlace version p → ((p.events ≡ []) × (p.messages ≡ []) → ⊥) → HasItsOwn version p
+has_by : (version : Version) (p : ProblemLists) → IsInPlace version p → ((p.events ≡ []) × (p.messages ≡ []) → ⊥) → HasWhatItNeeds version p
 has_by First p placed some = tt
 has_by Second p placed some = λ none. some (placed none)
 has_by Third p placed some = λ none. some (none, placed none)
 
-has_for : (version : Version) (p q : ProblemLists) → q.follows ≡ p.follows → q.events ≡ p.events → HasItsOwn version p → HasItsOwn version q
+has_for : (version : Version) (p q : ProblemLists) → q.follows ≡ p.follows → q.events ≡ p.events → HasWhatItNeeds version p → HasWhatItNeeds version q
 has_for First p q same same' has = tt
 has_for Second p q same same' has = λ none. has (sym same ∙ none)
 has_for Third p q same same' has = λ none. has (sym same' ∙ none)
@@ -287,7 +287,7 @@ placed_before Second cs fs es ds s placed = λ none. absurd (some_of es s (place
 placed_before Third cs fs es ds s placed = λ none. refl
 
 -- what an event's line without bounds needs before it
-plain_has : (version : Version) (cs : List Clock) (fs : List Follow) (es ds : List Event) → are_own version ≡ false → Snoc es → IsInPlace version (events_on cs fs es) → HasItsOwn version (events_on cs fs ds)
+plain_has : (version : Version) (cs : List Clock) (fs : List Follow) (es ds : List Event) → are_own version ≡ false → Snoc es → IsInPlace version (events_on cs fs es) → HasWhatItNeeds version (events_on cs fs ds)
 plain_has First cs fs es ds plain s placed = tt
 plain_has Second cs fs es ds plain s placed = λ none. some_of es s (placed none).0
 plain_has Third cs fs es ds plain s placed = absurd cc

@@ -29,7 +29,7 @@ use Rattle.problem.specs.declared.words.OwnWords.{OwnWords}
 use Rattle.problem.specs.declared.ranges.OwnStamp.{OwnStamp}
 use Rattle.problem.specs.declared.words.MessageWords.{MessageWords}
 use Rattle.problem.specs.Growing.{IsNewFollow, IsNewEvent, IsNewPair, HasRoomForEvent, HasRoomForMessage, Allows, with_clock, with_event, with_message}
-use Rattle.problem.specs.Line.{Line, line_words, IsSpelled, HasItsOwn, MayStand, NamesFit, NumbersFit, MayFollow, AreBounded, are_own, IsInPlace, IsInOrder, HasClock, HasEvent, head_with, problem_format}
+use Rattle.problem.specs.Line.{Line, line_words, IsSpelled, HasWhatItNeeds, MayStand, NamesFit, NumbersFit, MayFollow, AreBounded, are_own, IsInPlace, IsInOrder, HasClock, HasEvent, head_with, problem_format}
 use Rattle.problem.specs.Line.Line.{ClockLine, FollowLine, EventLine, OwnLine, MessageLine, EndLine}
 use Rattle.problem.specs.Written.{NanoIs, OwnIs, MostIs, clock_rest, event_rest, own_rest, message_rest, ClockSays, FollowSays, EventSays, OwnSays, MessageSays, clock_body, follow_body, event_body, message_body}
 use Rattle.problem.specs.Faults.{line_error}
@@ -170,15 +170,15 @@ follow_in_order version p q may some no_events no_messages = (in_place version m
     in_place Second may = λ none. (no_events, no_messages)
     in_place Third may = λ none. no_messages
 
-pub event_in_order : (version : Version) (p q : ProblemLists) → are_own version ≡ false → HasItsOwn version p → q.follows ≡ p.follows → AreBounded false q.events → IsInOrder version p → IsInOrder version q
+pub event_in_order : (version : Version) (p q : ProblemLists) → are_own version ≡ false → HasWhatItNeeds version p → q.follows ≡ p.follows → AreBounded false q.events → IsInOrder version p → IsInOrder version q
 event_in_order First p q plain has same bounded ordered = (same ∙ ordered.0, bounded)
 event_in_order Second p q plain has same bounded ordered = ((λ none. absurd (has (sym same ∙ none))), bounded)
 event_in_order Third p q plain has same bounded ordered = absurd cc
 
-pub more_in_order : (version : Version) (p q : ProblemLists) → HasItsOwn version p → q.follows ≡ p.follows → q.events ≡ p.events → IsInOrder version p → IsInOrder version q
+pub more_in_order : (version : Version) (p q : ProblemLists) → HasWhatItNeeds version p → q.follows ≡ p.follows → q.events ≡ p.events → IsInOrder version p → IsInOrder version q
 more_in_order version p q has same same' ordered = (in_place version has ordered.0, rw same' ordered.1)
   where
-    in_place : (version : Version) → HasItsOwn version p → IsInPlace version p → IsInPlace version q
+    in_place : (version : Version) → HasWhatItNeeds version p → IsInPlace version p → IsInPlace version q
     in_place First has placed = same ∙ placed
     in_place Second has placed = λ none. absurd (has (sym same ∙ none))
     in_place Third has placed = λ none. absurd (has (sym same' ∙ none))

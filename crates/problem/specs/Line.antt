@@ -52,12 +52,12 @@ are_own First = false
 are_own Second = false
 are_own Third = true
 
--- what a version asks for before its messages and its end: the second one a follow, the third one an event, the first
--- one nothing
-abbrev pub HasItsOwn : Version → ProblemLists → Type 0
-HasItsOwn First p = Unit {0}
-HasItsOwn Second p = p.follows ≢ []
-HasItsOwn Third p = p.events ≢ []
+-- what a version needs before what comes next: the second one a follow before its events, messages and end, the third one an
+-- event before its messages and end, the first one nothing
+abbrev pub HasWhatItNeeds : Version → ProblemLists → Type 0
+HasWhatItNeeds First p = Unit {0}
+HasWhatItNeeds Second p = p.follows ≢ []
+HasWhatItNeeds Third p = p.events ≢ []
 
 -- follows stand in the first version nowhere, in the others before events and messages
 abbrev pub MayFollow : Version → ProblemLists → Type 0
@@ -70,10 +70,10 @@ MayFollow Third p = (p.events ≡ []) × (p.messages ≡ [])
 abbrev pub MayStand : Version → ProblemLists → Line → Type 0
 MayStand version p (ClockLine name short long early late) = (p.follows ≡ []) × (p.events ≡ []) × (p.messages ≡ [])
 MayStand version p (FollowLine earlier later gap) = MayFollow version p
-MayStand version p (EventLine name clock stamp) = (are_own version ≡ false) × HasItsOwn version p × (p.messages ≡ [])
+MayStand version p (EventLine name clock stamp) = (are_own version ≡ false) × HasWhatItNeeds version p × (p.messages ≡ [])
 MayStand version p (OwnLine name clock stamp early late) = (are_own version ≡ true) × (p.messages ≡ [])
-MayStand version p (MessageLine send receive least most) = HasItsOwn version p
-MayStand version p EndLine = HasItsOwn version p
+MayStand version p (MessageLine send receive least most) = HasWhatItNeeds version p
+MayStand version p EndLine = HasWhatItNeeds version p
 
 -- which lines stand before the first of a kind: in the first version there are no follows, in the second nothing but
 -- clocks comes before the first follow, in the third no message before the first event

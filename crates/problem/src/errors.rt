@@ -10,7 +10,8 @@ use std::alloc::{AllocError, AllocFailed};
 /// Why nothing was added to a problem, in the order in which the causes are looked for.
 #[derive(Clone, Copy, Debug, PartialEq, Eq, thiserror::Error)]
 pub enum PushError {
-    /// A name, a pair of clocks or of events, or a place that may not stand there.
+    /// A name, a pair of clocks or of events, or a place that may not stand there; or an event with bounds of its own where
+    /// others have none, or without where others have some.
     #[error("a name that may not stand there")]
     Name,
     /// There are as many of its kind as there may be.
@@ -54,20 +55,20 @@ impl From<PushError> for LineError {
 #[derive(Clone, Copy, Debug, PartialEq, Eq, thiserror::Error)]
 pub enum ProblemError {
     /// The line has no form that its place allows, as one that is neither a clock's nor a follow's before the first follow
-    /// of version 2; a word in it is misspelled; the text ends before its end line, or it goes on behind it.
+    /// of version 2, or an event's without bounds in version 3; a word in it is misspelled; the text ends before its end line, or it goes on behind it.
     #[error("line {0} is none of the forms that may stand there")]
-    Syntax(u32),
+    Syntax(u64),
     /// A name stands before or is unknown; two names are of one event or of a message that stands before; or a follow's
     /// clocks are not in their order, or the one is the earlier or the other the later clock of a follow before.
     #[error("line {0} has a name that may not stand there")]
-    Name(u32),
+    Name(u64),
     /// A short above 999,999,999, a long above 1,000,000,000, or another number of 2^62 or more.
     #[error("line {0} has a number out of its range")]
-    Range(u32),
-    /// There are 65,536 clocks, or 2^21 events or messages, before it already.
+    Range(u64),
+    /// There are 65,536 clocks, or 2^24 events or messages, before it already.
     #[error("line {0} is one too many of its kind")]
-    Limit(u32),
-    /// The text has more than 2^31 bytes.
+    Limit(u64),
+    /// The text has more than 2^34 bytes.
     #[error("the text is too long")]
     Long,
     /// Memory ran out.
@@ -84,7 +85,7 @@ impl From<AllocError> for ProblemError {
 }
 
 /// The error of a text whose line of this number is refused.
-pub fn fault_at(fault: LineError, line: u32) -> ProblemError
+pub fn fault_at(fault: LineError, line: u64) -> ProblemError
     ensures { result ≡ text_fault fault line }
 {
     match fault {

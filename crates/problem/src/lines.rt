@@ -2,7 +2,7 @@
 ghost use Rattle.std.specs.Prelude.{◌≡◌, ◌≢◌, ◌↔◌, [], ℕ, Option, true, false, IsTrue, OnOk};
 ghost use Rattle.line_format.specs.Format.{Takes, TakesLine};
 ghost use Rattle.problem_model.specs.Name.{IsClockName};
-ghost use Rattle.problem.specs.Line.{IsInOrder, IsSaid, HasItsOwn, MayFollow, AreBounded, are_own, problem_format};
+ghost use Rattle.problem.specs.Line.{IsInOrder, IsSaid, HasWhatItNeeds, MayFollow, AreBounded, are_own, problem_format};
 ghost use Rattle.problem.specs.Line.Line.{ClockLine, FollowLine, EventLine, OwnLine, MessageLine};
 ghost use Rattle.problem.specs.Written.{ClockIs, NanoIs, OwnIs, MostIs, RefusesDelays, RefusesGap, clock_body, follow_body, event_body, message_body};
 ghost use Rattle.problem.specs.declared.version.Version.{Version};
@@ -41,7 +41,7 @@ fn may_follow(version: Version, items: &Items) -> bool
 
 // Whether what the version asks for before its messages is there.
 fn has_its_own(version: Version, items: &Items) -> bool
-    ensures { IsTrue result ↔ HasItsOwn version items.now }
+    ensures { IsTrue result ↔ HasWhatItNeeds version items.now }
 {
     match version {
         Version::First => true,

@@ -17,7 +17,7 @@ pub trait Listing {
     fn event_count(&self) -> u32
         ensures { result ≡ length (listed self.now).events };
 
-    /// How many readings are listed. Events and readings together are at most 2^22.
+    /// How many readings are listed. Events and readings together are at most 2^25.
     fn reading_count(&self) -> u32
         ensures count { result ≡ length (listed self.now).readings }
         ensures few { length (listed self.now).events + length (listed self.now).readings ≤ most_nodes };

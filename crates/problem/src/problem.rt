@@ -189,7 +189,7 @@ impl Problem {
     }
 
     /// Adds an event. Answers `Name` where its name is that of another event, its clock's place is out of range, or it
-    /// has bounds of its own and another event has none or the other way round, else `Limit` where there are 2^21
+    /// has bounds of its own and another event has none or the other way round, else `Limit` where there are 2^24
     /// events, else `Memory` where memory runs out. All stays as it was on each.
     pub fn push_event(&mut self, e: Event) -> Result<(), PushError>
         ensures ok { OnOk result (self.new ≡ with_event self.old e) }
@@ -206,7 +206,7 @@ impl Problem {
     }
 
     /// Adds a message. Answers `Name` where a place is out of range, where both are one, or where a message of this
-    /// send and this receive is there, else `Limit` where there are 2^21 messages, else `Memory` where memory runs
+    /// send and this receive is there, else `Limit` where there are 2^24 messages, else `Memory` where memory runs
     /// out. All stays as it was on each of them.
     pub fn push_message(&mut self, m: Message) -> Result<(), PushError>
         ensures ok { OnOk result (self.new ≡ with_message self.old m) }

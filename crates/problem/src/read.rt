@@ -60,7 +60,7 @@ fn read_lines(alloc: Global, version: Version, lines: &[u8]) -> Result<Items, Pr
 {
     let mut items = Items::new(alloc);
     let mut rest = lines;
-    let mut line: u32 = 2;
+    let mut line: u64 = 2;
     while let Some((body, after)) = cut(b'\n', rest) {
         match take(version, &mut items, body) {
             Ok(Taken::Line) => {}

@@ -15,14 +15,14 @@ use Rattle.problem_model.specs.declared.items.Node.TheVariants as nodes
 use Rattle.problem_model.specs.declared.items.Bound.{Bound}
 use Rattle.problem_model.specs.declared.items.Bound.TheVariants.{SpanMost, SpanLeast, Late, Early, Follow, DelayMost, DelayLeast}
 use Rattle.problem_model.specs.Problem.{ProblemLists}
-use Rattle.problem_model.specs.Bounds.{Declares, ClockAt, EventAt, IsReading}
+use Rattle.problem_model.specs.Bounds.{Declares, ClockAt, EventAt, IsReading, early_by, late_by}
 use Rattle.problem_model.specs.ShortList.{most_bound, message_bounds}
 use Rattle.problem.specs.Nearest.{gap_between}
 use Rattle.sync_graph.specs.declared.arc.Arc.{Arc}
 use Rattle.sync_graph.specs.Names.{JoinsNodes}
 use Rattle.problem_graph.specs.declared.arcs.Arcs.{Arcs}
 use Rattle.problem_graph.specs.declared.arcs.Arcs.TheVariants.{One, Two}
-use Rattle.problem_graph.specs.BoundArcs.{arcs_in, late_by, early_by, names_of, FitsNodes, IsBoundAmong, HaveNumbers, AreArcsOf}
+use Rattle.problem_graph.specs.BoundArcs.{arcs_in, names_of, FitsNodes, IsBoundAmong, HaveNumbers, AreArcsOf}
 
 -- ---- arcs in a row
 pub arcs_then : (N : List Node → Type 0) (H : ProblemLists → Type 0) (xs ys : List Bound) (xa xb : List Arc) → AreArcsOf xs N H xa → AreArcsOf ys N H xb → AreArcsOf (xs ++ ys) N H (xa ++ xb)

@@ -1,9 +1,7 @@
 -- The arcs that one thing of a problem brings, whatever the numbers of its nodes.
-use Rattle.std.specs.Prelude.{◌≡◌, ℕ, List, [], ◌∷◌, length, map, slice_get, Option, Some, None, All}
+use Rattle.std.specs.Prelude.{◌≡◌, ℕ, List, [], ◌∷◌, length, map, slice_get, Some, All}
 use Rattle.problem_model.specs.declared.items.Node.{Node}
 use Rattle.problem_model.specs.declared.items.Bound.{Bound}
-use Rattle.problem_model.specs.declared.items.Clock.{Clock}
-use Rattle.problem_model.specs.declared.items.StampBounds.{StampBounds}
 use Rattle.problem_model.specs.Problem.{ProblemLists}
 use Rattle.problem_model.specs.Bounds.{Constraint, Declares}
 use Rattle.sync_graph.specs.declared.arc.Arc.{Arc}
@@ -11,15 +9,6 @@ use Rattle.sync_graph.specs.Graph.{IsSound}
 use Rattle.sync_graph.specs.Names.{IsNamed}
 use Rattle.problem_graph.specs.declared.arcs.Arcs.{Arcs}
 use Rattle.problem_graph.specs.declared.arcs.Arcs.TheVariants.{Nothing, One, Two}
-
--- how far before the reading on its stamp an event on the clock may lie, in ns: by its own bounds, or else by those of
--- the clock
-abbrev pub early_by : Clock → Option StampBounds → ℕ
-early_by c bounds = elim bounds [ None ↦ c.early | Some own ↦ own.early ]
-
--- how far behind it
-abbrev pub late_by : Clock → Option StampBounds → ℕ
-late_by c bounds = elim bounds [ None ↦ c.late | Some own ↦ own.late ]
 
 -- the arcs as a list
 abbrev pub arcs_in : Arcs → List Arc

@@ -4,10 +4,10 @@ ghost use Rattle.problem_model.specs.declared.items.Event.{Event};
 ghost use Rattle.problem_model.specs.declared.items.Node.TheVariants as nodes;
 ghost use Rattle.problem_model.specs.declared.items.Bound.TheVariants as bounds;
 ghost use Rattle.problem_model.specs.declared.items.Bound.TheVariants.{SpanMost, SpanLeast, Late, Early, DelayLeast};
-ghost use Rattle.problem_model.specs.Bounds.{Declares, ClockAt, EventAt, IsReading};
+ghost use Rattle.problem_model.specs.Bounds.{Declares, ClockAt, EventAt, IsReading, early_by, late_by};
 ghost use Rattle.problem_model.specs.ShortList.{message_bounds};
 ghost use Rattle.problem.specs.Nearest.{gap_between};
-ghost use Rattle.problem_graph.specs.BoundArcs.{AreArcsOf, HaveNumbers, arcs_in, early_by, late_by};
+ghost use Rattle.problem_graph.specs.BoundArcs.{AreArcsOf, HaveNumbers, arcs_in};
 
 use atto::{Nano, delay_units, span_least, span_most};
 use problem::NearestFollow;

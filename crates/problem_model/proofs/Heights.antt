@@ -275,6 +275,6 @@ module _ (nodes : ℕ) (arcs : List Arc) (height : ℕ) (within : AreWithin node
         omega (arith, ints, below, is)
 
 -- ---- how high a height of a graph may be
--- weights are below 2^93, so over at most so many nodes every sum of a simple path is at most 2^115
+-- weights are below 2^93, so over at most so many nodes every sum of a simple path is at most 2^118
 pub height_low : (n : ℕ) → n ≤ most_nodes → n * 2 ^ 93 ≤ 2 ^ path_bits
 height_low n few = omega (arith, few)

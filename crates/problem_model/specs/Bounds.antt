@@ -1,7 +1,8 @@
 -- The bounds that a problem declares, over every two readings of a clock and of clocks that come after each other.
-use Rattle.std.specs.Prelude.{◌≡◌, ℕ, List, [], ◌∷◌, ◌-◌, ◌*◌, ◌<◌, slice_get, Some, None, ℤ, pos, neg_ℤ, ◌-ℤ◌, ◌≤ℤ◌, Contains}
+use Rattle.std.specs.Prelude.{◌≡◌, ℕ, List, [], ◌∷◌, ◌-◌, ◌*◌, ◌<◌, slice_get, Some, None, ℤ, pos, neg_ℤ, ◌-ℤ◌, ◌≤ℤ◌, Option, Contains}
 use Rattle.atto.specs.Span.{least_of, most_of}
 use Rattle.problem_model.specs.declared.items.Clock.{Clock}
+use Rattle.problem_model.specs.declared.items.StampBounds.{StampBounds}
 use Rattle.problem_model.specs.declared.items.Follow.{Follow}
 use Rattle.problem_model.specs.declared.items.Event.{Event}
 use Rattle.problem_model.specs.declared.items.Message.{Message}
@@ -39,13 +40,21 @@ LinesLead p c (f ∷ lines) d = Contains p.follows f × (f.earlier ≡ c) × Lin
 abbrev pub ComesAfter : ProblemLists → ℕ → ℕ → Type 0
 ComesAfter p c d = (f : Follow) × (lines : List Follow) × LinesLead p c (f ∷ lines) d
 
--- how far before the reading on its stamp an event may lie, in ns: by its own bounds, or else by those of its clock
-abbrev pub early_of : Clock → Event → ℕ
-early_of c e = elim e.bounds [ None ↦ c.early | Some own ↦ own.early ]
+-- how far before the reading on its stamp an event on the clock may lie, in ns: by its own bounds, or else by those of
+-- the clock
+abbrev pub early_by : Clock → Option StampBounds → ℕ
+early_by c bounds = elim bounds [ None ↦ c.early | Some own ↦ own.early ]
 
 -- how far behind it
+abbrev pub late_by : Clock → Option StampBounds → ℕ
+late_by c bounds = elim bounds [ None ↦ c.late | Some own ↦ own.late ]
+
+-- of an event, both
+abbrev pub early_of : Clock → Event → ℕ
+early_of c e = early_by c e.bounds
+
 abbrev pub late_of : Clock → Event → ℕ
-late_of c e = elim e.bounds [ None ↦ c.late | Some own ↦ own.late ]
+late_of c e = late_by c e.bounds
 
 -- the problem declares the constraint a under the name b: spans for every two readings of a clock; a follow for every
 -- reading of a clock and every one of a clock that comes after it, with the gap of the line that leads to the later one

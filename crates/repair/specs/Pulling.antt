@@ -16,7 +16,7 @@ use Rattle.distances.specs.Relaxed.{waits_of, IsRelaxedBy}
 abbrev pub onward : Side → GraphLists → ℕ → ℕ
 onward side g node = length (list_at (followed side g) node)
 
--- what is known and rests is at most 2^116 in absolute value
+-- what is known and rests is at most 2^119 in absolute value
 abbrev pub AreSmallAtRest : List Cell → List (Option ℤ) → Type 0
 AreSmallAtRest row front = (k : ℕ) → (cell_at row k).known ≡ true → waits_of front k ≡ false → IsUpTo (path_bits + 1) (cell_at row k).value
 

@@ -156,14 +156,14 @@ impl Graph {
         Ok(g)
     }
 
-    /// How many nodes there are, at most 2^22.
+    /// How many nodes there are, at most 2^25.
     pub fn nodes(&self) -> u32
         ensures { result ≡ length self.now.nodes }
     {
         self.leaving.len() as u32
     }
 
-    /// How many arcs there are, in force or not, at most 2^25.
+    /// How many arcs there are, in force or not, at most 2^28.
     pub fn arcs(&self) -> u32
         ensures { result ≡ length self.now.arcs }
     {

@@ -129,7 +129,7 @@ module _ (what : What) (p : ProblemLists) (readings : List Reading) (lawful : Is
   fits (Least extra execution cycle) found = (found.0, values_fit execution (wider execution found.1.small), cycle_fits extra cycle found.2)
   fits (Never cycle) found = steps_fit most_extra cycle found
 
-  -- of the 2 ^ 22 nodes at most each has a line of 100 bytes at most, and each step one of 149
+  -- of the 2 ^ 25 nodes at most each has a line of 101 bytes at most, and each step one of 149
   steps_text : (e : ℕ) (cycle : List Step) → IsCycleAt what p e cycle → length (cycle_lines p (Some cycle)) ≤ most_nodes * 149 + 6
   steps_text e cycle found =
       let head : length (line_of (codes "cycle" ∷ [])) ≡ 5 + 1 + 0 = line_size (codes "cycle") [] in
@@ -151,7 +151,7 @@ module _ (what : What) (p : ProblemLists) (readings : List Reading) (lawful : Is
       let size : length (least_line p what extra) ≡ 5 + 1 + (length (least_word extra) + 1 + sized (stated_words p what)) = line_size (codes "least") (least_word extra ∷ stated_words p what) in
       omega (arith, size, word_short extra within, stated_short (stated_words p what) (what_spelled p lawful what named))
 
-  lines_short : (w : Widening) → FindsWidening what p w → length (widening_lines p (nodes_of p readings) what w) ≤ most_nodes * 249 + 105
+  lines_short : (w : Widening) → FindsWidening what p w → length (widening_lines p (nodes_of p readings) what w) ≤ most_nodes * 250 + 105
   lines_short (Least extra execution cycle) found =
       let values = values_short p lawful readings execution are (values_up_to execution (wider execution found.1.small)) in
       let few = few_nodes p readings lawful are in

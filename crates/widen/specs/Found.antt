@@ -20,7 +20,7 @@ use Rattle.widen.specs.Weighed.{weighed_arcs}
 abbrev pub AreEarliestOf : ProblemLists → List ℤ → Type 0
 AreEarliestOf p values = (x : Times) × Lists p x values × IsEarliestExecution p x
 
--- the earliest execution of the problem that is widened by e, below 2^116 units at each node
+-- the earliest execution of the problem that is widened by e, below 2^119 units at each node
 pub record IsRunAt (what : What) (p : ProblemLists) (e : ℕ) (execution : List ℤ) : Type 0 where
   pub earliest : AreEarliestOf (widened what p e) execution
   pub small : All (IsUnder (path_bits + 1)) execution

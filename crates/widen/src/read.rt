@@ -4,7 +4,7 @@ ghost use Rattle.line_format.specs.Words.{words, line_of};
 ghost use Rattle.line_format.specs.Format.{most_text_bytes};
 ghost use Rattle.problem_model.specs.Problem.{ProblemLists};
 ghost use Rattle.problem_model.specs.Nodes.{Reading, nodes_of};
-ghost use Rattle.problem_model.specs.Limits.{most_steps};
+ghost use Rattle.problem_model.specs.Limits.{most_nodes, most_steps};
 ghost use Rattle.problem.specs.Listing.{all_readings};
 ghost use Rattle.cert.specs.ExecutionFormat.{AreValues};
 ghost use Rattle.cert_check.specs.declared.what.What.{What};
@@ -112,8 +112,25 @@ fn stated_by(body: &[u8]) -> Option<Stated>
     }
 }
 
+// The number of the line of the next step, where that of the first has this number.
+fn line_of_step(first: u64, cycle: &Chain) -> u64
+    requires { first ≤ most_steps }
+    ensures is { result ≡ first + length cycle.now }
+    ensures few { result ≤ most_steps + most_steps }
+{
+    first + u64::from(cycle.len())
+}
+
+// The number of the line behind those of these real times.
+fn line_behind(times: &Execution) -> u64
+    ensures is { result ≡ length times.now + 3 }
+    ensures few { result ≤ most_nodes + 3 }
+{
+    u64::from(times.len()) + 3
+}
+
 // The steps of a cycle up to the end of the text, where the first line has this number.
-fn read_steps(alloc: Global, p: &Problem, lines: &[u8], first: u32) -> Result<Chain, CertError>
+fn read_steps(alloc: Global, p: &Problem, lines: &[u8], first: u64) -> Result<Chain, CertError>
     requires { first ≤ most_steps }
     ensures { (what : What) (extra : Option ℕ) (values : List ℤ) (text : List ℕ) → IsBehind p.now (all_readings p.now.events) text lines.now (Said what extra values (Some [])) first
         → ReadsCycle p.now (all_readings p.now.events) text what extra values result }
@@ -121,7 +138,7 @@ fn read_steps(alloc: Global, p: &Problem, lines: &[u8], first: u32) -> Result<Ch
     let mut cycle = Chain::new(alloc);
     let mut rest = lines;
     while let Some((body, after)) = cut(b'\n', rest) {
-        let line = first + cycle.len();
+        let line = line_of_step(first, &cycle);
         match take_in_cycle(p, &mut cycle, body) {
             Ok(Taken::Line) => {}
             Ok(Taken::End) => {
@@ -134,7 +151,7 @@ fn read_steps(alloc: Global, p: &Problem, lines: &[u8], first: u32) -> Result<Ch
         }
         rest = after;
     }
-    Err(CertError::Syntax(first + cycle.len()))
+    Err(CertError::Syntax(line_of_step(first, &cycle)))
 }
 
 // The real time of the next node, and what follows its line.
@@ -146,7 +163,7 @@ fn next_time<'a>(p: &Problem, times: &mut Execution, lines: &'a [u8]) -> Result<
     ensures values { AreValues (length (nodes_of p.now (all_readings p.now.events))) times.new }
     ensures one { OnOk result (length times.new ≡ length times.old + 1) }
 {
-    let line = times.len() + 3;
+    let line = line_behind(times);
     match cut(b'\n', lines) {
         Some((body, rest)) => match take_value(p, times, body) {
             Ok(_) => Ok(rest),
@@ -178,7 +195,7 @@ fn read_times<'a>(
 }
 
 // The end of the text behind the real times, where the widening is 0.
-fn read_end(lines: &[u8], line: u32) -> Result<(), CertError>
+fn read_end(lines: &[u8], line: u64) -> Result<(), CertError>
     requires { line ≤ most_steps }
     ensures { (p : ProblemLists) (readings : List Reading) (what : What) (values : List ℤ) (text : List ℕ) → IsBehind p readings text lines.now (Said what (Some 0) values None) line → IsWhole p readings values
         → ReadsEnd p readings text what values result }
@@ -208,7 +225,7 @@ fn read_rest(
 {
     // It tells what the readings of the problem are.
     let _ = p.readings();
-    let line = execution.len() + 3;
+    let line = line_behind(&execution);
     if extra.get() == 0 {
         return match read_end(lines, line) {
             Ok(()) => Ok(Widening::Least {
@@ -337,7 +354,7 @@ fn read_text(alloc: Global, p: &Problem, text: &[u8]) -> Result<StatedWidening, 
 /// where a line is none of the forms that may stand there, which a cycle does behind `least none` and, behind the real times
 /// of all nodes, where the widening is above 0; else `Name` where a name is not the one that stands there or not the
 /// problem's; else `Range` where a real time or a weight is past 2^120 units in absolute value, or the widening 2^62 or
-/// more; else `Limit` behind 2^23 steps. `Long` comes beyond 2^31 bytes, and `Memory` only where memory runs out.
+/// more; else `Limit` behind 2^26 steps. `Long` comes beyond 2^34 bytes, and `Memory` only where memory runs out.
 pub fn read_widening(alloc: Global, p: &Problem, text: &[u8]) -> Result<StatedWidening, CertError>
     ensures { ReadsWidening p.now text.now result }
 {

@@ -10,7 +10,7 @@ use std::alloc::Global;
 
 /// Reads a widening's text of `p`, and answers whether the widening of what it names shows what it should, or the first
 /// reason why it does not, as `judge` does. Errors are those of reading: the first fault of the text with its line, or
-/// that the text has more than 2^31 bytes, or want of memory.
+/// that the text has more than 2^34 bytes, or want of memory.
 pub fn judge_text(alloc: Global, p: &Problem, text: &[u8]) -> Result<Answer, CertError>
     ensures { JudgesText p.now text.now result }
 {

@@ -96,7 +96,7 @@ fn judge_least(
 /// bound that its execution breaks, as part `Run`, where the problem is widened by as much as it says; then, as part
 /// `Cycle`, what is wrong with its cycle, by the weights that bounds have where the problem is widened by 1 less, or by
 /// those of the greatest widening. What is written as weights is compared and not used. No solver is asked. Sums that
-/// it tells are below 2^116 in absolute value, weights below 2^93, differences at most 2^121. It takes no memory.
+/// it tells are below 2^119 in absolute value, weights below 2^93, differences at most 2^121. It takes no memory.
 pub fn judge(p: &Problem, what: What, w: &Widening) -> Answer
     requires { IsWideningOf p.now w.now }
     ensures judged { IsJudged what p.now w.now result }

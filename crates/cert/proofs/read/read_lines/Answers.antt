@@ -19,12 +19,12 @@ returns-then-is_empty c =
 pub returns-in-Ok-End : goal.returns-in-Ok-End
 returns-in-Ok-End c =
     let some : c.in-Some.after.now ≢ [] = λ is. let none = ap length is in grind (arith, none, c.is_empty.ensures, c.if-is_empty.false) in
-    rw c.len-line.ensures.count (more_answers _ line_lacks _ _ _ _ _ _ _ c.loop-body.invariant (sym c.in-Some.ensures) (rw c.in-Ok-End.field-0-is at c.in-Ok-End.ensures.takes) some)
+    rw c.line_behind-line.ensures.is (more_answers _ line_lacks _ _ _ _ _ _ _ c.loop-body.invariant (sym c.in-Some.ensures) (rw c.in-Ok-End.field-0-is at c.in-Ok-End.ensures.takes) some)
 
 pub returns-in-Err : goal.returns-in-Err
 returns-in-Err c =
     let n = c.args.nodes.now in
-    rw (c.error_at.ensures, c.len-line.ensures.count) (fault_reads n.problem n.readings _ _ _ _ _ _ _ c.in-Err.fault c.loop-body.invariant (sym c.in-Some.ensures) c.in-Err.ensures.takes)
+    rw (c.error_at.ensures, c.line_behind-line.ensures.is) (fault_reads n.problem n.readings _ _ _ _ _ _ _ c.in-Err.fault c.loop-body.invariant (sym c.in-Some.ensures) c.in-Err.ensures.takes)
 
 pub loop-body-smaller : goal.loop-body-smaller
 loop-body-smaller c = cut_shorter _ _ _ _ (sym c.in-Some.ensures)
@@ -37,4 +37,4 @@ loop-body-preserved c =
 pub returns : goal.returns
 returns c =
     let none : cut 10 c.loop-body.rest.now ≡ None = search rules in
-    rw c.len.ensures.count (cut_answers _ line_lacks _ _ _ _ c.loop-body.invariant none)
+    rw c.line_behind.ensures.is (cut_answers _ line_lacks _ _ _ _ c.loop-body.invariant none)

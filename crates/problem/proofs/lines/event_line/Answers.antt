@@ -1,5 +1,5 @@
 use Rattle.std.proofs.Common.{◌≡◌, [], rules}
-use Rattle.problem.specs.Line.{HasItsOwn}
+use Rattle.problem.specs.Line.{HasWhatItNeeds}
 use Rattle.problem.proofs.Taking.{event_line_ok, event_line_err, event_in_order}
 use Rattle.problem.proofs.lines.event_line.Goals as goal
 
@@ -11,11 +11,11 @@ returns-in-Ok-clause-taken c =
 pub returns-in-Err-clause-taken : goal.returns-in-Err-clause-taken
 returns-in-Err-clause-taken c =
     let says = c.in-Some.ensures.some in
-    let has : HasItsOwn c.args.version c.args.items.now = search rules in
+    let has : HasWhatItNeeds c.args.version c.args.items.now = search rules in
     let no_messages : c.args.items.now.messages ≡ [] = search rules in
     event_line_err c.args.version c.args.items.now _ _ _ says c.in-Err.fault (c.requires.plain, has, no_messages) (c.in-Err.ensures.taken c.args.version says.stamp (c.nano_of.ensures says.stamp says.stamp_is))
 
 pub returns-in-Ok-clause-ordered : goal.returns-in-Ok-clause-ordered
 returns-in-Ok-clause-ordered c =
-    let has : HasItsOwn c.args.version c.args.items.now = search rules in
+    let has : HasWhatItNeeds c.args.version c.args.items.now = search rules in
     event_in_order c.args.version c.args.items.now _ c.requires.plain has c.in-Ok.ensures.follows c.in-Ok.ensures.bounds c.requires.ordered

@@ -1,5 +1,5 @@
 use Rattle.std.proofs.Common.{rules}
-use Rattle.problem.specs.Line.{HasItsOwn}
+use Rattle.problem.specs.Line.{HasWhatItNeeds}
 use Rattle.problem.proofs.Taking.{message_line_ok, message_line_err, more_in_order}
 use Rattle.problem.proofs.lines.message_line.Goals as goal
 
@@ -11,10 +11,10 @@ returns-in-Ok-clause-taken c =
 pub returns-in-Err-clause-taken : goal.returns-in-Err-clause-taken
 returns-in-Err-clause-taken c =
     let says = c.in-Some.ensures.some in
-    let has : HasItsOwn c.args.version c.args.items.now = search rules in
+    let has : HasWhatItNeeds c.args.version c.args.items.now = search rules in
     message_line_err c.args.version c.args.items.now _ _ _ says c.in-Err.fault has (c.in-Err.ensures.taken c.args.version says.least says.most (c.nano_of.ensures says.least says.least_is) (c.most_of.ensures says.most says.most_is))
 
 pub returns-in-Ok-clause-ordered : goal.returns-in-Ok-clause-ordered
 returns-in-Ok-clause-ordered c = λ ordered.
-    let has : HasItsOwn c.args.version c.args.items.now = search rules in
+    let has : HasWhatItNeeds c.args.version c.args.items.now = search rules in
     more_in_order c.args.version c.args.items.now _ has c.in-Ok.ensures.follows c.in-Ok.ensures.events ordered

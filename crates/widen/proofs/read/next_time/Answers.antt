@@ -24,13 +24,13 @@ returns-in-Err-clause-read c = λ what extra text b.
     let r = all_readings p.events in
     let old = c.args.times.now in
     let new = c.take_value.new.values in
-    rw (c.error_at.ensures, c.len-line.ensures.count) (fault_refuses p r text c.args.lines.now c.in-Some.body.now c.in-Some.rest.now (Said what (Some extra) old None) (Said what (Some extra) new None) (length old + 3) c.in-Err.fault b (sym c.in-Some.ensures)
+    rw (c.error_at.ensures, c.line_behind-line.ensures.is) (fault_refuses p r text c.args.lines.now c.in-Some.body.now c.in-Some.rest.now (Said what (Some extra) old None) (Said what (Some extra) new None) (length old + 3) c.in-Err.fault b (sym c.in-Some.ensures)
     (node_taken p r what extra old new c.in-Some.body.now c.requires.more (Err c.in-Err.fault) c.in-Err.ensures.takes))
 
 pub returns-in-None-clause-read : goal.returns-in-None-clause-read
 returns-in-None-clause-read c = λ what extra text b.
     let p = c.args.p.now in
-    rw c.len-line.ensures.count (cut_refuses p (all_readings p.events) text c.args.lines.now (Said what (Some extra) c.args.times.now None) (length c.args.times.now + 3) b (sym c.in-None.ensures))
+    rw c.line_behind-line.ensures.is (cut_refuses p (all_readings p.events) text c.args.lines.now (Said what (Some extra) c.args.times.now None) (length c.args.times.now + 3) b (sym c.in-None.ensures))
 
 pub returns-in-Ok-clause-one : goal.returns-in-Ok-clause-one
 returns-in-Ok-clause-one c =

@@ -15,7 +15,7 @@ returns-in-Ok c = λ what text b whole.
     let p = c.args.p.now in
     let r = all_readings p.events in
     let zero : c.args.extra ≡ 0 = search rules in
-    let line : length c.args.execution + 3 ≡ c.len-line.result + 3 = ap (λ n. n + 3) (sym c.len-line.ensures.count) in
+    let line : length c.args.execution + 3 ≡ c.line_behind-line.result = sym c.line_behind-line.ensures.is in
     zero_found p r (own_readings p c.readings.result.now c.readings.ensures) text what c.args.extra c.args.execution zero (c.in-Ok.ensures p r what c.args.execution text (zero_on p r text c.args.lines.now what c.args.extra _ _ c.args.execution zero line b) whole)
 
 pub returns-in-Err : goal.returns-in-Err
@@ -23,7 +23,7 @@ returns-in-Err c = λ what text b whole.
     let p = c.args.p.now in
     let r = all_readings p.events in
     let zero : c.args.extra ≡ 0 = search rules in
-    let line : length c.args.execution + 3 ≡ c.len-line.result + 3 = ap (λ n. n + 3) (sym c.len-line.ensures.count) in
+    let line : length c.args.execution + 3 ≡ c.line_behind-line.result = sym c.line_behind-line.ensures.is in
     c.in-Err.ensures p r what c.args.execution text (zero_on p r text c.args.lines.now what c.args.extra _ _ c.args.execution zero line b) whole
 
 pub returns-in-Ok-read_steps : goal.returns-in-Ok-read_steps
@@ -33,18 +33,18 @@ returns-in-Ok-read_steps c = λ what text b whole.
     let above : 0 < c.args.extra = omega (arith, c.get.ensures.value) in
     let cycle = c.in-Ok-read_steps.cycle in
     (found_is p r (own_readings p c.readings.result.now c.readings.ensures) what (Least c.args.extra c.args.execution (Some cycle)) text).1
-    (c.in-Ok-read_steps.ensures what (Some c.args.extra) c.args.execution text (rw c.len-line.ensures.count (cycle_on p r text c.args.lines.now c.in-Some.rest.now what (Some c.args.extra) c.args.execution _ b c.in-Some.ensures.some (above, whole))))
+    (c.in-Ok-read_steps.ensures what (Some c.args.extra) c.args.execution text (rw c.line_behind-line.ensures.is (cycle_on p r text c.args.lines.now c.in-Some.rest.now what (Some c.args.extra) c.args.execution _ b c.in-Some.ensures.some (above, whole))))
 
 pub returns-in-Err-read_steps : goal.returns-in-Err-read_steps
 returns-in-Err-read_steps c = λ what text b whole.
     let p = c.args.p.now in
     let r = all_readings p.events in
     let above : 0 < c.args.extra = omega (arith, c.get.ensures.value) in
-    c.in-Err-read_steps.ensures what (Some c.args.extra) c.args.execution text (rw c.len-line.ensures.count (cycle_on p r text c.args.lines.now c.in-Some.rest.now what (Some c.args.extra) c.args.execution _ b c.in-Some.ensures.some (above, whole)))
+    c.in-Err-read_steps.ensures what (Some c.args.extra) c.args.execution text (rw c.line_behind-line.ensures.is (cycle_on p r text c.args.lines.now c.in-Some.rest.now what (Some c.args.extra) c.args.execution _ b c.in-Some.ensures.some (above, whole)))
 
 pub returns-in-None : goal.returns-in-None
 returns-in-None c = λ what text b whole.
     let p = c.args.p.now in
     let r = all_readings p.events in
     let above : 0 < c.args.extra = omega (arith, c.get.ensures.value) in
-    rw c.len-line.ensures.count (only_line p r text c.args.lines.now (Said what (Some c.args.extra) c.args.execution None) _ (codes "cycle" ∷ []) b (only_cycle_above p r what c.args.extra c.args.execution above whole) c.in-None.ensures.none)
+    rw c.line_behind-line.ensures.is (only_line p r text c.args.lines.now (Said what (Some c.args.extra) c.args.execution None) _ (codes "cycle" ∷ []) b (only_cycle_above p r what c.args.extra c.args.execution above whole) c.in-None.ensures.none)

@@ -29,13 +29,13 @@ returns-in-Ok-End c = λ what extra values text b.
     let p = c.args.p.now in
     let r = all_readings p.events in
     let some : c.in-Some.after.now ≢ [] = λ is. let none = ap length is in grind (arith, none, c.is_empty.ensures, c.if-is_empty.false) in
-    rw c.len.ensures.count (more_answers (widening_format p r) widening_lacks _ _ _ _ _ _ _ (stands_of p r _ _ _ _ (c.loop-body.invariant what extra values text b)) (sym c.in-Some.ensures) (step_taken p r what extra values c.loop-body.cycle c.take_in_cycle.new.steps c.in-Some.body.now (Ok taken.End) (rw c.in-Ok-End.field-0-is at c.in-Ok-End.ensures.takes)) some)
+    rw c.line_of_step-line.ensures.is (more_answers (widening_format p r) widening_lacks _ _ _ _ _ _ _ (stands_of p r _ _ _ _ (c.loop-body.invariant what extra values text b)) (sym c.in-Some.ensures) (step_taken p r what extra values c.loop-body.cycle c.take_in_cycle.new.steps c.in-Some.body.now (Ok taken.End) (rw c.in-Ok-End.field-0-is at c.in-Ok-End.ensures.takes)) some)
 
 pub returns-in-Err : goal.returns-in-Err
 returns-in-Err c = λ what extra values text b.
     let p = c.args.p.now in
     let r = all_readings p.events in
-    rw (c.error_at.ensures, c.len.ensures.count) (fault_refuses p r _ _ _ _ _ _ _ c.in-Err.fault (c.loop-body.invariant what extra values text b) (sym c.in-Some.ensures) (step_taken p r what extra values c.loop-body.cycle c.take_in_cycle.new.steps c.in-Some.body.now (Err c.in-Err.fault) c.in-Err.ensures.takes))
+    rw (c.error_at.ensures, c.line_of_step-line.ensures.is) (fault_refuses p r _ _ _ _ _ _ _ c.in-Err.fault (c.loop-body.invariant what extra values text b) (sym c.in-Some.ensures) (step_taken p r what extra values c.loop-body.cycle c.take_in_cycle.new.steps c.in-Some.body.now (Err c.in-Err.fault) c.in-Err.ensures.takes))
 
 pub loop-body-smaller : goal.loop-body-smaller
 loop-body-smaller c = cut_shorter _ _ _ _ (sym c.in-Some.ensures)
@@ -44,7 +44,7 @@ pub returns : goal.returns
 returns c = λ what extra values text b.
     let p = c.args.p.now in
     let none : cut 10 c.loop-body.rest.now ≡ None = search rules in
-    rw c.len-2.ensures.count (cut_refuses p (all_readings p.events) _ _ _ _ (c.loop-body.invariant what extra values text b) none)
+    rw c.line_of_step.ensures.is (cut_refuses p (all_readings p.events) _ _ _ _ (c.loop-body.invariant what extra values text b) none)
 
 pub loop-body-preserved : goal.loop-body-preserved
 loop-body-preserved c = λ what extra values text b.
