@@ -141,11 +141,15 @@ impl Decl {
     pub fn own_bounds(&self, label: &Label) -> Option<StampBounds>
         ensures { result ≡ own_bounds (declaration_of self.now) label.now }
     {
-        if self.has_own_bounds() {
-            self.bounds_at(label)
-        } else {
-            None
-        }
+        self.own_bounds_if(self.has_own_bounds(), label)
+    }
+
+    /// The same, where it is known whether some label gives bounds.
+    pub fn own_bounds_if(&self, given: bool, label: &Label) -> Option<StampBounds>
+        requires { given ≡ has_own_bounds (declaration_of self.now) }
+        ensures { result ≡ own_bounds (declaration_of self.now) label.now }
+    {
+        if given { self.bounds_at(label) } else { None }
     }
 
     /// The place of the host that has this address of this version, the number of its octets in network byte order; None

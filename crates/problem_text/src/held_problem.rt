@@ -39,7 +39,7 @@ fn problem_in(alloc: Global, text: &[u8]) -> Result<Problem, AllocError>
 }
 
 /// The problem whose text `write_roster` writes: that of what a roster holds. It is made by its text, which is held in
-/// memory meanwhile and has at most 2^31 bytes. An error only where memory runs out.
+/// memory meanwhile and has at most 2^34 bytes. An error only where memory runs out.
 pub fn problem_of_roster(alloc: Global, roster: &Roster) -> Result<Problem, AllocError>
     requires told { (seen : List (List Seen)) × HoldsEvents roster.now seen × TellsMessages roster.now (messages_by_number roster.now seen) }
     ensures { (seen : List (List Seen)) → HoldsEvents roster.now seen → TellsMessages roster.now (messages_by_number roster.now seen) → IsProblem (problem_of_seen roster.now.declaration seen) → IfOk result (λ p. p ≡ problem_of_seen roster.now.declaration seen) }

@@ -5,7 +5,7 @@ ghost use Rattle.problem_model.specs.ProblemText.{problem_text};
 ghost use Rattle.problem_text.specs.ReadAgain.{IsReadAs};
 ghost use Rattle.line_format.specs.Format.{most_text_bytes};
 
-/// A law, which does nothing when it runs. The text of a lawful problem has at most 2^31 bytes, so it is never too long to
+/// A law, which does nothing when it runs. The text of a lawful problem has at most 2^34 bytes, so it is never too long to
 /// be read. It is read as this problem, and is refused for want of memory alone.
 pub fn read_again()
     ensures short { (p : ProblemLists) → IsProblem p → length (problem_text p) ≤ most_text_bytes }

@@ -2,18 +2,18 @@
 ghost use Rattle.std.specs.Prelude.{◌≡◌, ◌<◌, length};
 ghost use Rattle.ports.specs.Content.{Writes};
 ghost use Rattle.problem_model.specs.ProblemText.{follow_line};
-ghost use Rattle.decl.specs.Declaration.{declaration_of, has_own_bounds, own_bounds};
+ghost use Rattle.decl.specs.Declaration.{declaration_of, has_own_bounds};
 ghost use Rattle.traces.specs.Traces.{host_of};
 ghost use Rattle.roster.specs.Roster.{id_of, event_at};
 ghost use Rattle.problem_text.specs.RosterText.{HasPartners, came_line, couple_line, next_line, sent_line};
 
 use crate::lines::write_follow;
 use crate::words::{event_line, message_line};
-use decl::{Decl, Label};
+use decl::Decl;
 use ports::fixed_line::Line;
 use ports::{Failed, Sink};
 use problem::Listing;
-use problem_model::{Follow, StampBounds};
+use problem_model::Follow;
 use roster::{Came, Roster};
 
 // Writes the line of a follow.
@@ -37,14 +37,6 @@ pub(crate) fn write_next<O: Sink>(roster: &Roster, place: u32, out: &mut O) -> R
     }
 }
 
-// The bounds that events of a label have of their own, where it is known whether any label gives some.
-fn bounds_if(own: bool, decl: &Decl, label: &Label) -> Option<StampBounds>
-    requires { own ≡ has_own_bounds (declaration_of decl.now) }
-    ensures { result ≡ own_bounds (declaration_of decl.now) label.now }
-{
-    if own { decl.bounds_at(label) } else { None }
-}
-
 /// The line of the event with this number. Events have bounds of their own where some label gives any.
 pub(crate) fn came_line(roster: &Roster, own: bool, v: u32) -> Line
     requires came { v < length roster.now.came }
@@ -56,7 +48,8 @@ pub(crate) fn came_line(roster: &Roster, own: bool, v: u32) -> Line
     let label = &decl.labels[came.label as usize];
     let name = roster.event_name(v);
     let clock = roster.clock_name(label.clock);
-    event_line(&name, &clock, came.stamp, bounds_if(own, decl, label))
+    let bounds = decl.own_bounds_if(own, label);
+    event_line(&name, &clock, came.stamp, bounds)
 }
 
 // The host that an event happened at.

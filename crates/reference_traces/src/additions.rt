@@ -56,7 +56,7 @@ impl Additions {
     }
 
     /// Adds events of a label, behind those that it has, and answers how they change the messages. There is an error
-    /// where memory runs out, where no label is at this place, and where there would be more than 2^21 events; what
+    /// where memory runs out, where no label is at this place, and where there would be more than 2^24 events; what
     /// came is used no more then.
     pub fn add(&mut self, label: u32, mut events: Vec<Event>) -> Result<Change, AllocError>
         requires { AreAllAdded self.old.roster self.old.matcher (seen_in self.old.labels.items) }

@@ -123,7 +123,7 @@ pub fn messages(alloc: Global, events: &[PlacedEvent]) -> Result<Vec<Couple>, Al
 
 /// The messages among the events of all labels, in the order of their sends; an error where memory runs out.
 ///
-/// There are at most 65,536 labels, with at most 2^21 events together.
+/// There are at most 65,536 labels, with at most 2^24 events together.
 pub fn messages_in(alloc: Global, accepted: &[Accepted]) -> Result<Vec<Couple>, AllocError>
     requires labels { length accepted.now ≤ 65536 }
     requires few { event_count (seen_in accepted.now) ≤ most_events }

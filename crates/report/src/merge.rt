@@ -45,7 +45,7 @@ fn key_at(keys: &[MergeKey], position: u32) -> Option<MergeKey>
 /// The positions of these keys, from 0 on, in the order of their values, then of their places, then of their numbers; an
 /// error where memory runs out.
 ///
-/// No two keys have the same place and the same number, and there are at most 2^22.
+/// No two keys have the same place and the same number, and there are at most 2^25.
 pub fn merge_order(alloc: Global, keys: &[MergeKey]) -> Result<Vec<u32>, AllocError>
     requires differ { AreApart keys.now }
     requires few { length keys.now ≤ most_items }

@@ -22,7 +22,8 @@ pub struct NoKeys {
     pub side: u32,
     /// Log rows of the kind `local`.
     pub local: u32,
-    /// Packets that were captured on another interface than that of their label.
+    /// Packets that were captured on another interface than that of their label, or of which the capture does not say on
+    /// which.
     pub interface: u32,
 }
 

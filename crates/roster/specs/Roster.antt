@@ -53,7 +53,7 @@ pub record AreOnClocks (d : Declaration) (came : List Came) (readings : List (Li
   pub few : total (sizes_of readings) ≤ length came
 
 -- a group for each label and each clock; what a label numbers k has number k there, and each event stands under its
--- label; there are at most 2^21 events
+-- label; there are at most 2^24 events
 pub record IsRoster (r : RosterLists) : Type 0 where
   pub declared : IsDeclaration r.declaration
   pub labels : length r.under ≡ length r.declaration.labels

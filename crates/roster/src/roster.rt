@@ -95,7 +95,7 @@ impl Roster {
         Ok(first)
     }
 
-    /// How many events came: at most 2^21.
+    /// How many events came: at most 2^24.
     pub fn len(&self) -> u32
         ensures count { result ≡ length self.now.came }
         ensures few { result ≤ most_events }

@@ -7,7 +7,7 @@ ghost use Rattle.problem_model.specs.declared.items.Bound.TheVariants.{Late, Ear
 ghost use Rattle.problem_model.specs.Problem.{ProblemLists};
 ghost use Rattle.problem_model.specs.Bounds.{ClockAt, EventAt};
 ghost use Rattle.problem_model.specs.Limits.{most_arcs, most_nodes};
-ghost use Rattle.decl.specs.Declaration.{declaration_of, follows_of, has_own_bounds, own_bounds};
+ghost use Rattle.decl.specs.Declaration.{follows_of, has_own_bounds};
 ghost use Rattle.problem_graph.specs.Standing.{HasNode};
 ghost use Rattle.solver.specs.Solver.{HasRoom, with_new_node};
 ghost use Rattle.solver.specs.Current.{IsCurrent};
@@ -28,7 +28,6 @@ use crate::links::push_links;
 use crate::nearest::is_known;
 use crate::pushes::{ClockReading, push_stamp};
 use atto::{Nano, Steps};
-use decl::{Decl, Label};
 use problem_model::{Clock, Node, StampBounds};
 use roster::Roster;
 use solver::Solver;
@@ -132,22 +131,14 @@ pub(crate) fn gives_bounds(roster: &Roster) -> bool
     roster.decl().has_own_bounds()
 }
 
-// The bounds that events of a label have of their own; `given` says whether some label gives any.
-fn bounds_if(given: bool, decl: &Decl, label: &Label) -> Option<StampBounds>
-    requires { given ≡ has_own_bounds (declaration_of decl.now) }
-    ensures { result ≡ own_bounds (declaration_of decl.now) label.now }
-{
-    if given { decl.bounds_at(label) } else { None }
-}
-
-// The bounds that events of the label at a place have of their own.
+// The bounds that events of the label at a place have of their own; `given` says whether some label gives any.
 fn bounds_of(roster: &Roster, label: u32, given: bool) -> Option<StampBounds>
     requires label { label < length roster.now.declaration.labels }
     requires given { given ≡ has_own_bounds roster.now.declaration }
     ensures { (number : ℕ) → bounds_of roster.now.declaration (record { label = label; number = number }) ≡ result }
 {
     let decl = roster.decl();
-    bounds_if(given, decl, &decl.labels[label as usize])
+    decl.own_bounds_if(given, &decl.labels[label as usize])
 }
 
 /// Whether an event has entered the graph.

@@ -40,7 +40,7 @@ fn place_events<'a>(
 /// out.
 ///
 /// A label goes by its place, from 0 on. Events of a label are numbered from 1 on, in their order. There are at most
-/// 65,536 labels, with at most 2^21 events together.
+/// 65,536 labels, with at most 2^24 events together.
 pub fn events(alloc: Global, accepted: &[Accepted]) -> Result<Vec<PlacedEvent<'_>>, AllocError>
     requires labels { length accepted.now ≤ 65536 }
     requires few { event_count (seen_in accepted.now) ≤ most_events }

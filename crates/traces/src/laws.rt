@@ -33,7 +33,7 @@ pub fn groups_are_chains()
     ensures { (window : ℕ) (times : List ℤ) (a b : ℤ) → Contains times a → Contains times b → a ≤ℤ b → (beginning window times a ≡ beginning window times b) ↔ IsLinked window times a b }
 {}
 
-/// A law, which does nothing when it runs: a lawful declaration and at most 2^21 events under its labels, with stamps
+/// A law, which does nothing when it runs: a lawful declaration and at most 2^24 events under its labels, with stamps
 /// below 2^62 ns, make a lawful problem.
 pub fn lawful()
     ensures { (d : Declaration) (seen : List (List Seen)) → IsDeclaration d → length seen ≡ length d.labels → event_count seen ≤ most_events → StampsFit seen → IsProblem (problem_of_seen d seen) }

@@ -25,7 +25,7 @@ returns c =
     let l : Label = c.index-label.result.now in
     let same = ap (λ (d : Declaration). d.labels) c.decl-decl.ensures.same in
     let own : slice_get r.declaration.labels e.label ≡ Some l = own_label r c.decl-decl.ensures.lawful c.args.v e c.event-came.ensures l (subst (λ (xs : List Label). l ≡ get_or xs e.label l) same c.index-label.ensures) in
-    c.event_line.ensures ∙ came_text r c.decl-decl.ensures.lawful c.args.v e l c.event_name-name.result c.clock_name-clock.result c.bounds_if.result c.event-came.ensures own (c.bounds_if.ensures ∙ ap (λ (d : Declaration). own_bounds d l) c.decl-decl.ensures.same) c.event_name-name.ensures c.clock_name-clock.ensures
+    c.event_line.ensures ∙ came_text r c.decl-decl.ensures.lawful c.args.v e l c.event_name-name.result c.clock_name-clock.result c.own_bounds_if-bounds.result c.event-came.ensures own (c.own_bounds_if-bounds.ensures ∙ ap (λ (d : Declaration). own_bounds d l) c.decl-decl.ensures.same) c.event_name-name.ensures c.clock_name-clock.ensures
 
-pub bounds_if-requires : goal.bounds_if-requires
-bounds_if-requires c = c.requires.own ∙ sym (ap has_own_bounds c.decl-decl.ensures.same)
+pub own_bounds_if-bounds-requires : goal.own_bounds_if-bounds-requires
+own_bounds_if-bounds-requires c = c.requires.own ∙ sym (ap has_own_bounds c.decl-decl.ensures.same)
