@@ -3,7 +3,7 @@ use Rattle.std.proofs.Common.{◌≡◌, ℕ, ◌≤◌, List, length, Some, Non
 use Rattle.std.specs.Prelude.{ℤ, IfOk, IfErr}
 use Rattle.std.proofs.lemmas.Grind.{common_steps}
 use Rattle.ports.specs.Files.{Content, FilesTold, HasBytes, IsFront}
-use Rattle.line_format.specs.Format.{Answers}
+use Rattle.line_format.specs.Format.{Answers, most_text_bytes}
 use Rattle.problem_model.specs.Problem.{ProblemLists}
 use Rattle.problem_model.specs.Bounds.{Times}
 use Rattle.problem_model.specs.Nodes.{Reading, AreReadings, Lists}
@@ -27,11 +27,11 @@ whole most front bytes more is_false is = (grind (arith, common_steps, is.1, is_
 
 -- the text is the whole of the file at the path, and short enough
 abbrev pub IsWhole : Content → List ℕ → List ℕ → Type 0
-IsWhole files path text = HasBytes files path (λ all. (length all ≤ 2147483648) × (text ≡ all))
+IsWhole files path text = HasBytes files path (λ all. (length all ≤ most_text_bytes) × (text ≡ all))
 
-pub text_whole : (files : Content) (path front : List ℕ) (more : Bool) → more ≡ false → HasBytes files path (IsFront 2147483648 front more) → IsWhole files path front
+pub text_whole : (files : Content) (path front : List ℕ) (more : Bool) → more ≡ false → HasBytes files path (IsFront most_text_bytes front more) → IsWhole files path front
 text_whole None path front more is has = tt
-text_whole (Some files) path front more is has = (has.0, has.1, whole 2147483648 front has.0 more is has.2)
+text_whole (Some files) path front more is has = (has.0, has.1, whole most_text_bytes front has.0 more is has.2)
 
 -- ---- what a text says, of the file that has it
 pub spelled_in : (files : Content) (path text : List ℕ) (P : List ℕ → Type 0) → IsWhole files path text → P text → HasBytes files path P

@@ -19,12 +19,12 @@ use atto::Steps;
 use intervals::{ends_from, order_of};
 use ports::{Failed, Files, Sink};
 use problem::Problem;
-use problem_model::Name;
 use queries::{pairs, write_contradiction};
 use row_pool::Pair;
 use solver::Solver;
 use std::alloc::Global;
 use std::sync::ledger::Ledger;
+use thinning::event_named;
 
 /// The names of two events.
 #[derive(Clone, Copy, Debug)]
@@ -33,19 +33,6 @@ pub struct TwoNames<'a> {
     pub first: &'a str,
     /// The name of the second event.
     pub second: &'a str,
-}
-
-// The place of the event of a name.
-pub(crate) fn event_of(p: &Problem, name: &[u8]) -> Option<u32>
-    ensures some { IfSome result (λ place. HasEvent p.now place name.now) }
-    ensures none { IfNone result (IsUnknown p.now name.now) }
-{
-    // It tells that each event has an event's name.
-    let _ = p.events();
-    match Name::new(name) {
-        Some(name) => p.event_place(&name),
-        None => None,
-    }
 }
 
 // Prints the interval and the order of two events, by their greatest differences in both directions.
@@ -64,8 +51,8 @@ fn events_of(p: &Problem, names: &TwoNames) -> Option<(u32, u32)>
     ensures some { IfSome result (λ places. HasEvent p.now places.0 names.now.first.now × HasEvent p.now places.1 names.now.second.now) }
     ensures none { IfNone result (IsUnknown p.now names.now.first.now ⊎ IsUnknown p.now names.now.second.now) }
 {
-    let from = event_of(p, names.first.as_bytes())?;
-    let to = event_of(p, names.second.as_bytes())?;
+    let from = event_named(p, names.first.as_bytes())?;
+    let to = event_named(p, names.second.as_bytes())?;
     Some((from, to))
 }
 

@@ -43,7 +43,7 @@ pub fn refusal_line(kind: &[u8], refusal: Refusal) -> Line
 {
     let mut line = first_word(kind);
     push_decimal(&mut line, u64::from(refusal.number()));
-    push_decimal(&mut line, u64::from(refusal.place()));
+    push_decimal(&mut line, refusal.place());
     line.push(b'\n');
     line
 }

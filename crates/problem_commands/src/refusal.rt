@@ -4,12 +4,12 @@ ghost use Rattle.problem_commands.specs.Refusal.{printed_cause, printed_line};
 
 use line_format::FaultKind;
 
-/// Why a text is refused: the first fault and its line, or that it is longer than 2^31 bytes.
+/// Why a text is refused: the first fault and its line, or that it is longer than 2^34 bytes.
 #[derive(Clone, Copy, Debug)]
 pub enum Refusal {
     /// The first faulty line, counted from 1, and what is wrong with it.
-    Faulty(FaultKind, u32),
-    /// The text has more than 2^31 bytes.
+    Faulty(FaultKind, u64),
+    /// The text has more than 2^34 bytes.
     Long,
 }
 
@@ -28,7 +28,7 @@ impl Refusal {
     }
 
     /// The line of the fault, from 1 on; 0 for a text that is too long.
-    pub fn place(self) -> u32
+    pub fn place(self) -> u64
         ensures { result ≡ printed_line self }
     {
         match self {

@@ -2,34 +2,17 @@
 ghost use Rattle.std.specs.Prelude.{◌≡◌, ℕ, List, IfOk, IfErr, All, drop};
 ghost use Rattle.ports.specs.Files.{Keeps};
 ghost use Rattle.thinning.specs.Kept.{event_marks, message_marks, FitsTo};
+ghost use Rattle.thinning.specs.Named.{IsKnown, AreNamed, IsThinnedFor, IsUnfound};
 ghost use Rattle.problem_commands.specs.Printing.{Prints};
-ghost use Rattle.problem_commands.specs.declared.thin.Unfound.TheVariants.{Memory};
-ghost use Rattle.problem_commands.specs.Thin.{IsKnown, AreNamed, IsUnfound, IsThinnedFor, TellsThin, ProblemThinned};
+ghost use Rattle.problem_commands.specs.Thin.{TellsThin, ProblemThinned};
 
-use crate::ends::event_of;
 use crate::last_line::{finish, stop};
 use crate::status::Status;
 use crate::texts::problem_in;
 use ports::{Failed, Files, Sink, Words};
 use problem::Problem;
-use std::alloc::{AllocFailed, Global};
-use thinning::{Thinned, thin as thinned, write_thinned};
-
-// Why events were not found.
-enum Unfound {
-    // A name is no event's.
-    Unknown,
-    // Memory ran out.
-    Memory,
-}
-
-impl<T: Drop> From<AllocFailed<T>> for Unfound {
-    ghost from_gives = { λ _ e. e ≡ Memory };
-
-    fn from(_: AllocFailed<T>) -> Unfound {
-        Unfound::Memory
-    }
-}
+use std::alloc::Global;
+use thinning::{Thinned, Unfound, event_named, thin as thinned, write_thinned};
 
 // The places of the events that the words behind the first two name.
 fn events_of(alloc: Global, p: &Problem, words: &Words) -> Result<Vec<u32>, Unfound>
@@ -38,7 +21,7 @@ fn events_of(alloc: Global, p: &Problem, words: &Words) -> Result<Vec<u32>, Unfo
 {
     let mut places = Vec::new(alloc);
     for k in 2..words.len() {
-        match event_of(p, words.word(k).as_bytes()) {
+        match event_named(p, words.word(k).as_bytes()) {
             Some(place) => places.push(place)?,
             None => return Err(Unfound::Unknown),
         }

@@ -9,7 +9,8 @@ use Rattle.thinning.specs.declared.edges.ClockEdges.{ClockEdges}
 use Rattle.thinning.specs.Edges.{IsEarlierOf, IsLaterOf, IsFirstOf, IsLastOf, AreEdges, AreEdgesOfClocks, AreEdgesWithin, HasEdgesMarked}
 use Rattle.problem_model.specs.declared.items.Follow.{Follow}
 use Rattle.problem_model.specs.Problem.{ProblemLists, LeadsOn, IsProblem}
-use Rattle.thinning.specs.Staying.{IsMarked, AreKeptMarks, AreAsked}
+use Rattle.thinning.specs.Staying.{AreKeptMarks, AreAsked}
+use Rattle.thinning.specs.Thinned.{IsMarked}
 use Rattle.thinning.proofs.Marked.{place_in}
 use Rattle.thinning.proofs.Marking.{get_set_same, get_set_other}
 

@@ -16,8 +16,8 @@ use Rattle.problem_model.specs.ProblemArcs.{IsGreatestOf, IsUnboundedOf}
 use Rattle.thinning.specs.Thinning.{with_messages, Remains, IsMessageEnd}
 use Rattle.thinning.specs.Dropping.{with_events, message_before, node_before, Drops}
 use Rattle.thinning.specs.Small.{Shrinks, Stays}
-use Rattle.thinning.specs.Thinned.{marked, marks_before, renumbered, thinned_by, MayBeKept, AreOneEvent, IsThinnedTo, HasAsked}
-use Rattle.thinning.specs.Staying.{IsMarked, IsMarkedReading, AreAsked, Stay}
+use Rattle.thinning.specs.Thinned.{AreOneEvent, HasAsked, IsMarked, IsThinnedTo, MayBeKept, marked, marks_before, renumbered, thinned_by}
+use Rattle.thinning.specs.Staying.{IsMarkedReading, AreAsked, Stay}
 use Rattle.thinning.proofs.Messages.{contained_map, made_of}
 use Rattle.thinning.proofs.Marked.{one_there, place_of, places_differ, kept_at, stays_at, stood_at, before_differ, marked_within, all_marked, pairs_marked, kept_inside, stays_inside, one_place}
 

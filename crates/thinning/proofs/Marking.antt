@@ -5,8 +5,8 @@ use Rattle.std.proofs.lemmas.Option.{same_Some}
 use Rattle.problem_model.specs.declared.items.Message.{Message}
 use Rattle.problem_model.specs.Problem.{ProblemLists}
 use Rattle.thinning.specs.Thinning.{IsMessageEnd}
-use Rattle.thinning.specs.Thinned.{marked}
-use Rattle.thinning.specs.Staying.{IsMarked, IsMarkedAlso, AreKeptMarks, AreEndsMarked, Stay}
+use Rattle.thinning.specs.Thinned.{IsMarked, marked}
+use Rattle.thinning.specs.Staying.{IsMarkedAlso, AreKeptMarks, AreEndsMarked, Stay}
 use Rattle.thinning.proofs.Marked.{place_of, kept_at, stays_inside, place_in}
 
 pub get_set_same : {X : Type 0} (xs : List X) (k : ℕ) (x : X) → k < length xs → slice_get (set xs k x) k ≡ Some x

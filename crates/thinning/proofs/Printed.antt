@@ -15,9 +15,8 @@ use Rattle.problem_model.specs.Problem.{ProblemLists, IsProblem}
 use Rattle.problem_model.specs.ProblemText.{clock_line, clock_name, event_line, event_name, follow_line, head_words, message_line, most_word, problem_text}
 use Rattle.problem.specs.Line.{line_words}
 use Rattle.problem.specs.Line.Line.{FollowLine}
-use Rattle.thinning.specs.Thinned.{marked, marks_before, renumbered, thinned_by}
+use Rattle.thinning.specs.Thinned.{IsMarked, marked, marks_before, renumbered, thinned_by}
 use Rattle.thinning.specs.Thinning.{IsMessageEnd}
-use Rattle.thinning.specs.Staying.{IsMarked}
 use Rattle.thinning.proofs.Marked.{contained_at, place_in, one_there, kept_inside, stays_at}
 
 -- ---- names by places

@@ -3,7 +3,7 @@ use Rattle.std.specs.Prelude.{◌≡◌, ◌⊎◌, ℕ, ◌<◌, ◌≤◌, Boo
 use Rattle.problem_model.specs.declared.items.Event.{Event}
 use Rattle.problem_model.specs.declared.items.Follow.{Follow}
 use Rattle.thinning.specs.declared.edges.ClockEdges.{ClockEdges}
-use Rattle.thinning.specs.Staying.{IsMarked}
+use Rattle.thinning.specs.Thinned.{IsMarked}
 
 -- the result is that one of two events whose stamp is less
 abbrev pub IsEarlierOf : List Event → ℕ → ℕ → ℕ → Type 0

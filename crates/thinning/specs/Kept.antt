@@ -4,8 +4,7 @@ use Rattle.problem_model.specs.declared.items.Message.{Message}
 use Rattle.problem_model.specs.Problem.{ProblemLists}
 use Rattle.thinning.specs.declared.small.Thinned.{Thinned}
 use Rattle.thinning.specs.Thinning.{IsMessageEnd}
-use Rattle.thinning.specs.Thinned.{marked, thinned_by}
-use Rattle.thinning.specs.Staying.{IsMarked}
+use Rattle.thinning.specs.Thinned.{IsMarked, marked, thinned_by}
 
 -- the marks of events, and those of messages
 abbrev pub event_marks : Thinned → List Bool

@@ -1,16 +1,12 @@
 -- Which events stay in a problem that is made smaller.
-use Rattle.std.specs.Prelude.{◌≡◌, ◌⊎◌, ℕ, ◌≤◌, Bool, true, List, length, slice_get, Some, All, Contains}
+use Rattle.std.specs.Prelude.{◌≡◌, ◌⊎◌, ℕ, ◌≤◌, Bool, List, length, slice_get, Some, All, Contains}
 use Rattle.problem_model.specs.declared.items.Event.{Event}
 use Rattle.problem_model.specs.declared.items.Follow.{Follow}
 use Rattle.problem_model.specs.declared.items.Message.{Message}
 use Rattle.problem_model.specs.Problem.{ProblemLists}
 use Rattle.problem_model.specs.Bounds.{EventAt, IsReading}
 use Rattle.thinning.specs.Thinning.{IsMessageEnd}
-use Rattle.thinning.specs.Thinned.{marked}
-
--- the mark at this place is true
-abbrev pub IsMarked : List Bool → ℕ → Type 0
-IsMarked marks e = slice_get marks e ≡ Some true
+use Rattle.thinning.specs.Thinned.{IsMarked, marked}
 
 -- each mark that was true is
 abbrev pub AreKeptMarks : List Bool → List Bool → Type 0

@@ -7,7 +7,11 @@ use Rattle.problem_model.specs.Problem.{ProblemLists}
 use Rattle.problem_model.specs.Bounds.{EventAt, Times, IsExecution}
 use Rattle.problem_model.specs.ProblemArcs.{IsGreatestOf, IsUnboundedOf}
 use Rattle.thinning.specs.Thinning.{Remains, Thins}
-use Rattle.thinning.specs.Dropping.{with_events}
+use Rattle.thinning.specs.Dropping.{message_before, with_events}
+
+-- the mark at this place is true
+abbrev pub IsMarked : List Bool → ℕ → Type 0
+IsMarked marks e = slice_get marks e ≡ Some true
 
 -- those whose mark is true
 abbrev pub marked : {X : Type 0} → List X → List Bool → List X
@@ -23,7 +27,7 @@ marks_before (mark ∷ marks) (suc e) = if mark then suc (marks_before marks e) 
 
 -- the message, whose events go by their places among those that stay
 abbrev pub renumbered : List Bool → Message → Message
-renumbered stays m = record { send = marks_before stays m.send; receive = marks_before stays m.receive; least = m.least; most = m.most }
+renumbered stays = message_before (marks_before stays)
 
 -- the problem of the events that stay and the messages that are kept
 abbrev pub thinned_by : ProblemLists → List Bool → List Bool → ProblemLists
@@ -34,7 +38,7 @@ thinned_by p stays keeps = with_events p (marked p.events stays) (map (renumbere
 pub record MayBeKept (p : ProblemLists) (asked : List Bool) (keeps : List Bool) : Type 0 where
   pub each : length keeps ≡ length p.messages
   pub thins : Thins p 0 (marked p.messages keeps)
-  pub remain : (e : ℕ) → slice_get asked e ≡ Some true → Remains p (marked p.messages keeps) (nodes.Event e)
+  pub remain : (e : ℕ) → IsMarked asked e → Remains p (marked p.messages keeps) (nodes.Event e)
 
 -- ---- what the small problem says
 -- the event at place i of the small problem is the one at place k of the whole

@@ -1,7 +1,8 @@
 // Marks of the events that stay whatever messages are left out.
 ghost use Rattle.std.specs.Prelude.{◌≡◌, ◌<◌, All, IfOk, IfSome, length};
 ghost use Rattle.thinning.specs.Edges.{AreEdgesWithin, AreEdgesOfClocks, HasEdgesMarked};
-ghost use Rattle.thinning.specs.Staying.{IsMarked, IsMarkedAlso, AreAsked, AreKeptMarks};
+ghost use Rattle.thinning.specs.Staying.{IsMarkedAlso, AreAsked, AreKeptMarks};
+ghost use Rattle.thinning.specs.Thinned.{IsMarked};
 
 use crate::edges::{ClockEdges, clock_edges};
 use problem::{Follow, Problem};

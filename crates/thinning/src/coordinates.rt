@@ -1,5 +1,5 @@
 // The two coordinates of a message, which tell what is as fast however its clocks drift.
-ghost use Rattle.std.specs.Prelude.{◌≡◌, ◌<◌, ◌^◌, pos, unsigned_abs, IsTrue, ◌≤ℤ◌};
+ghost use Rattle.std.specs.Prelude.{◌≡◌, ◌<◌, ◌^◌, pos};
 ghost use Rattle.atto.specs.Span.{least_of, most_of};
 ghost use Rattle.thinning.specs.Thinning.{coordinate_u, coordinate_v};
 

@@ -1,6 +1,5 @@
 // The messages of a problem by their links: those of one link can take each other's place.
-ghost use Rattle.std.specs.Prelude.{◌≡◌, ◌<◌, length};
-ghost use Rattle.problem_model.specs.Problem.{IsProblem};
+ghost use Rattle.std.specs.Prelude.{◌<◌, length};
 
 use crate::coordinates::{coordinate_u, coordinate_v};
 use problem::Problem;

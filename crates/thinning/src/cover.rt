@@ -1,5 +1,5 @@
 // Whether a message takes the place of another.
-ghost use Rattle.std.specs.Prelude.{◌≡◌, ◌<◌, ◌≤◌, ℕ, IsTrue, IfSome, Some, length, slice_get};
+ghost use Rattle.std.specs.Prelude.{◌≡◌, ◌<◌, ◌≤◌, IsTrue, IfSome, length};
 ghost use Rattle.problem_model.specs.declared.items.Message.{Message};
 ghost use Rattle.problem_model.specs.Bounds.{ClockAt, EventAt, early_of, late_of};
 ghost use Rattle.thinning.specs.Thinning.{HaveSameBounds, HasNearEnds, IsAsFast, IsAsNear};

@@ -1,7 +1,7 @@
 // Which messages are kept.
-ghost use Rattle.std.specs.Prelude.{◌≡◌, ◌<◌, ℕ, IsTrue, IfOk, Some, length, slice_get};
+ghost use Rattle.std.specs.Prelude.{◌≡◌, ◌<◌, IsTrue, IfOk, length};
 ghost use Rattle.thinning.specs.Thinned.{MayBeKept};
-ghost use Rattle.thinning.specs.Keeping.{HasEnds, MarksShared, MayGo, IsUnmarked};
+ghost use Rattle.thinning.specs.Keeping.{MayGo, IsUnmarked};
 
 use crate::cover::is_covered;
 use crate::sharing::shared_events;

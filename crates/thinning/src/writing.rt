@@ -7,8 +7,7 @@ ghost use Rattle.problem_model.specs.declared.items.Message.{Message};
 ghost use Rattle.problem_model.specs.ProblemText.{clock_line, event_line, follow_line, have_bounds, head_words, message_line, problem_text};
 ghost use Rattle.problem_text.specs.Paged.{Puts};
 ghost use Rattle.thinning.specs.Thinning.{IsMessageEnd};
-ghost use Rattle.thinning.specs.Thinned.{marked, thinned_by};
-ghost use Rattle.thinning.specs.Staying.{IsMarked};
+ghost use Rattle.thinning.specs.Thinned.{IsMarked, marked, thinned_by};
 ghost use Rattle.thinning.specs.Kept.{thinned_lists, FitsTo};
 
 use crate::small::Thinned;

@@ -3,9 +3,10 @@ use Rattle.std.specs.Prelude.{All}
 use Rattle.problem_commands.specs.declared.status.Status.TheVariants.{UnknownName}
 use Rattle.thinning.specs.Thinned.{HasAsked}
 use Rattle.thinning.specs.Kept.{thinned_lists}
-use Rattle.problem_commands.specs.Thin.{IsUnfound, TellsThin}
+use Rattle.thinning.proofs.NamedEvents.{all_inside, all_known, all_kept}
+use Rattle.thinning.specs.Named.{IsUnfound}
+use Rattle.problem_commands.specs.Thin.{TellsThin}
 use Rattle.problem_commands.proofs.Printing.{closes_prints}
-use Rattle.problem_commands.proofs.Thinning.{all_inside, all_known, all_kept}
 use Rattle.problem_commands.proofs.thin.answer.Goals as goal
 
 pub returns-in-Err-Unknown : goal.returns-in-Err-Unknown

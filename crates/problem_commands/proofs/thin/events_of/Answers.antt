@@ -1,6 +1,6 @@
 use Rattle.std.proofs.Common.{◌≤◌, ◌+◌, ◌-◌, ℕ, List, [], arith, subst, sym, length, take, drop}
 use Rattle.problem.specs.Line.{HasEvent, IsUnknown}
-use Rattle.problem_commands.specs.Thin.{AreNamed}
+use Rattle.thinning.specs.Named.{AreNamed}
 use Rattle.problem_commands.proofs.Thinning.{named_more, all_named, one_unknown}
 use Rattle.problem_commands.proofs.thin.events_of.Goals as goal
 

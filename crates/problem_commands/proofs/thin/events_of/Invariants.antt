@@ -1,5 +1,5 @@
 use Rattle.std.proofs.Common.{◌≤◌, ◌-◌, take, drop}
-use Rattle.problem_commands.specs.Thin.{AreNamed}
+use Rattle.thinning.specs.Named.{AreNamed}
 use Rattle.problem_commands.proofs.thin.events_of.Given as goal
 
 -- the places of the names so far

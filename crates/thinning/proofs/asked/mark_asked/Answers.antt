@@ -1,7 +1,7 @@
 use Rattle.std.proofs.Common.{◌≡◌, length, All, subst, arith}
 use Rattle.std.proofs.lemmas.List.Elements.{All-weaker}
 use Rattle.thinning.specs.Edges.{AreEdgesWithin, HasEdgesMarked}
-use Rattle.thinning.specs.Staying.{IsMarked}
+use Rattle.thinning.specs.Thinned.{IsMarked}
 use Rattle.thinning.proofs.Edging.{edges_within, asked_by}
 use Rattle.thinning.proofs.asked.mark_asked.Goals as goal
 

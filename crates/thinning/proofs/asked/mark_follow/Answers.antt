@@ -2,7 +2,7 @@ use Rattle.std.proofs.Common.{Option, Some, None, subst}
 use Rattle.std.specs.Prelude.{IfSome}
 use Rattle.std.proofs.lemmas.Option.{get_or_from_slice_get}
 use Rattle.thinning.specs.declared.edges.ClockEdges.{ClockEdges}
-use Rattle.thinning.specs.Staying.{IsMarked}
+use Rattle.thinning.specs.Thinned.{IsMarked}
 use Rattle.thinning.proofs.asked.mark_follow.Goals as goal
 
 pub returns-clause-edges : goal.returns-clause-edges

@@ -1,5 +1,5 @@
 use Rattle.std.proofs.Common.{◌<◌, ℕ, get_or}
-use Rattle.thinning.specs.Staying.{IsMarked}
+use Rattle.thinning.specs.Thinned.{IsMarked}
 use Rattle.thinning.proofs.asked.mark_places.Given as goal
 
 -- the places so far have their marks

@@ -1,7 +1,7 @@
 use Rattle.std.proofs.Common.{◌≡◌, ◌<◌, ◌+◌, Bool, List, true, false, length, get_or, slice_get, Some, refl, sym, ◌∙◌, ap, subst, arith}
 use Rattle.std.proofs.lemmas.Option.{slice_get_read, slice_get-get_or, slice_get_within, get_or_from_slice_get}
 use Rattle.problem_model.specs.declared.items.Message.{Message}
-use Rattle.thinning.specs.Staying.{IsMarked}
+use Rattle.thinning.specs.Thinned.{IsMarked}
 use Rattle.thinning.proofs.Marking.{AreEndsOf, ends_past, ends_more, ends_all}
 use Rattle.thinning.proofs.small.mark_ends.Goals as goal
 use Rattle.thinning.proofs.small.mark_ends.Goals.{then-keeps-place, else-keeps-place}

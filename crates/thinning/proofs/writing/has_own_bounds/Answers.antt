@@ -1,7 +1,7 @@
 use Rattle.std.proofs.Common.{◌≡◌, ◌<◌, Bool, true, false, length, get_or, slice_get, is_some, Some, sym, ◌∙◌, ap, subst, arith}
 use Rattle.std.proofs.lemmas.Option.{same_Some, slice_get-get_or, slice_get_within, get_or_from_slice_get}
 use Rattle.problem_model.specs.declared.items.Event.{Event}
-use Rattle.thinning.specs.Staying.{IsMarked}
+use Rattle.thinning.specs.Thinned.{IsMarked}
 use Rattle.thinning.proofs.Printed.{one_passes, none_pass, pass_more}
 use Rattle.thinning.proofs.writing.has_own_bounds.Goals as goal
 use Rattle.thinning.proofs.writing.has_own_bounds.Goals.{else-stays-place-via-then-stays-place+else-is_some, else-stays-place-via-else-stays-place}

@@ -2,8 +2,7 @@ use Rattle.std.proofs.Common.{ℕ, Bool, List, sym, subst}
 use Rattle.std.specs.Prelude.{Contains}
 use Rattle.problem_model.specs.declared.items.Message.{Message}
 use Rattle.thinning.specs.Thinning.{IsMessageEnd}
-use Rattle.thinning.specs.Thinned.{marked}
-use Rattle.thinning.specs.Staying.{IsMarked}
+use Rattle.thinning.specs.Thinned.{IsMarked, marked}
 use Rattle.thinning.proofs.writing.write_thinned.Goals as goal
 
 pub write_parts-requires-clause-ends : goal.write_parts-requires-clause-ends
