@@ -3,6 +3,7 @@ pub mod SeenUnder
 pub mod Placing
 pub mod KeptEvents
 pub mod Commands
+pub mod Spacing
 pub mod Asking
 pub mod OneCommand
 mod LineLengths

@@ -1,5 +1,5 @@
--- A line has one reply, but for which contradiction and which path of bounds is printed.
-use Rattle.std.proofs.Common.{◌≡◌, ◌≢◌, ◌⊎◌, inl, inr, ℕ, suc, ◌+◌, ◌<◌, List, [], ◌∷◌, ◌++◌, length, map, slice_get, slice_set, Option, Some, None, Bool, true, false, nat_le, MatchBool, refl, sym, ◌∙◌, ap, subst, arith}
+-- A line has one reply, but for which contradiction, which path of bounds and which smaller problem is printed.
+use Rattle.std.proofs.Common.{◌≡◌, ◌≢◌, ◌⊎◌, inl, inr, ℕ, suc, ◌+◌, ◌<◌, List, [], ◌∷◌, ◌++◌, length, map, slice_get, slice_set, Option, Some, None, Bool, true, false, nat_le, MatchBool, All, Any, refl, sym, ◌∙◌, ap, subst, arith}
 use Rattle.std.proofs.lemmas.List.{length-map}
 use Rattle.std.proofs.lemmas.Option.{slice_get_within}
 use Rattle.ports.specs.Files.{Content}
@@ -31,6 +31,7 @@ use Rattle.queries.specs.declared.comparison.Asked.{Asked}
 use Rattle.queries.specs.declared.comparison.Asked.TheVariants as questions
 use Rattle.queries.specs.Replies.{HasReading, IsIntervalLine, IsOrderLine, IsComparisonLine, IsProofText, IsTimeLine, Replies}
 use Rattle.widen.specs.Blame.{IsBlameText}
+use Rattle.thinning.specs.Named.{IsKnown, IsThinText}
 use Rattle.replies.specs.Merged.{IsMergeText}
 use Rattle.replies.specs.AllTimes.{AreTimesBy, AreEndsSince, IsTimesText}
 use Rattle.report.specs.Reports.{report_text}
@@ -38,8 +39,8 @@ use Rattle.replies.specs.declared.outcome.Aside.{Aside}
 use Rattle.replies.specs.declared.refusal.Refusal.{Refusal}
 use Rattle.replies.specs.declared.refusal.Refusal.TheVariants.{NoCommand, UnknownLabel, UnreadFile, TooManyBytes, TooManyEvents}
 use Rattle.replies.specs.Refusals.{log_refusal, capture_refusal}
-use Rattle.replies.specs.Commands.{Command, Add, Keep, Ask, Question, Compare, Time, AllTimes, Merge, Prove, Problem, Report, Blame, Asks}
-use Rattle.replies.specs.Reply.{State, Found, Unread, Bytes, Absent, Failed, Refuses, OfTwo, OfOne, OfSource, IsTimeReply, IsTimesReply, IsSinceText, IsReport, IsAnswerTo, added_line, added_by, count_by, IsAdded, aside_of, AcceptReply, with_rows, IsLogRefusal, LogReply, bytes_of, IsCaptureRefusal, CaptureReply, KindReply, fits_label, PieceReply, label_at, AddReply, IsPlacedAt, kept_line, SlotReply, KeepReply, Reply, AreKept}
+use Rattle.replies.specs.Commands.{Command, Add, Keep, Ask, Question, Compare, Time, AllTimes, Merge, Prove, Problem, Report, Blame, Thin, Asks}
+use Rattle.replies.specs.Reply.{State, Found, Unread, Bytes, Absent, Failed, Refuses, OfTwo, OfOne, OfEach, OfSource, IsTimeReply, IsTimesReply, IsSinceText, IsReport, IsAnswerTo, added_line, added_by, count_by, IsAdded, aside_of, AcceptReply, with_rows, IsLogRefusal, LogReply, bytes_of, IsCaptureRefusal, CaptureReply, KindReply, fits_label, PieceReply, label_at, AddReply, IsPlacedAt, kept_line, SlotReply, KeepReply, Reply, AreKept}
 use Rattle.replies.specs.Sessions.{CommandReply, LineReply}
 use Rattle.replies.specs.OneReply.{IsState, AreContradictions, MayDiffer, LineMayDiffer}
 use Rattle.replies.proofs.Elements.{some_same}
@@ -153,6 +154,17 @@ one_of_two p Differ first second Says lawful may one a b (inl (i, j, at_i, at_j,
 one_of_two p Differ first second Says lawful may one a b (inl (i, j, at_i, at_j, x)) (inr (unknown, y)) = absurd (known_both p first second i j at_i at_j unknown)
 one_of_two p Differ first second Says lawful may one a b (inr (unknown, x)) (inl (i, j, at_i, at_j, y)) = absurd (known_both p first second i j at_i at_j unknown)
 one_of_two p Differ first second Says lawful may one a b (inr (unknown, x)) (inr (unknown', y)) = inl (x ∙ sym y)
+
+known_each : (p : ProblemLists) (events : List (List ℕ)) → All (IsKnown p) events → Any (IsUnknown p) events → ⊥
+known_each p events known (k, name, inside, is, unknown) = let at : IsKnown p name = subst (IsKnown p) is (known k name inside) in unknown at.0 at.1
+
+-- answers about some events are one, or are both such texts
+one_of_each : (p : ProblemLists) (Differ : Differences) (events : List (List ℕ)) (Says : List ℕ → Type 0) → ((a b : List ℕ) → Says a → Says b → AreSame Differ a b) →
+    (a b : List ℕ) → OfEach p events Says a → OfEach p events Says b → AreSame Differ a b
+one_of_each p Differ events Says one a b (inl x) (inl y) = one a b x.1 y.1
+one_of_each p Differ events Says one a b (inl x) (inr y) = absurd (known_each p events x.0 y.0)
+one_of_each p Differ events Says one a b (inr x) (inl y) = absurd (known_each p events y.0 x.0)
+one_of_each p Differ events Says one a b (inr x) (inr y) = inl (x.1 ∙ sym y.1)
 
 one_of_one : (p : ProblemLists) (Differ : Differences) (event : List ℕ) (Says : ℕ → List ℕ → Type 0) → IsProblem p → ((i : ℕ) (a b : List ℕ) → Says i a → Says i b → AreSame Differ a b) →
     (a b : List ℕ) → OfOne p event Says a → OfOne p event Says b → AreSame Differ a b
@@ -308,6 +320,9 @@ module _ (below : Below) where
   one_answer_to Problem d seen missed lawful a b x y = inl (x ∙ sym y)
   one_answer_to Report d seen missed lawful a b x y = inl (one_report d seen missed a b x y)
   one_answer_to Blame d seen missed lawful a b x y = inl (below.blame (problem_of_seen d seen) a b x y)
+  one_answer_to (Thin events) d seen missed lawful a b x y =
+      let p = problem_of_seen d seen in
+      one_of_each p (MayDiffer p (Ask (Thin events))) events (IsThinText p events) (λ one two is is'. inr (is, is')) a b x y
 
   -- ---- lines
   one_reply : (d : Declaration) (s : State) (c : Command) (found : Found) → IsProblem (problem_of d s.traces) → AreKept (seen_by d s.traces) s.kept →

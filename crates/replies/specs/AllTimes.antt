@@ -18,15 +18,15 @@ AreTimesBy p clock event ends = (stamp : ℕ) → IsReading p clock stamp → Ar
 abbrev pub AreEndsSince : ProblemLists → ℕ → ℕ → Ends → Type 0
 AreEndsSince p first event ends = AreEndsOf p (time_difference (nodes.Event first) (nodes.Event event)) ends
 
--- an event with its ends
-abbrev pub ends_line : Event → Ends → List ℕ
-ends_line v ends = line_of (v.name ∷ end_word (codes "-inf") ends.least ∷ end_word (codes "+inf") ends.greatest ∷ [])
+-- a name with ends
+abbrev pub ends_line : List ℕ → Ends → List ℕ
+ends_line name ends = line_of (name ∷ end_word (codes "-inf") ends.least ∷ end_word (codes "+inf") ends.greatest ∷ [])
 
 -- each event with its own
 abbrev pub ends_lines : List Event → List Ends → List ℕ
 ends_lines [] all = []
 ends_lines (v ∷ events) [] = []
-ends_lines (v ∷ events) (ends ∷ all) = ends_line v ends ++ ends_lines events all
+ends_lines (v ∷ events) (ends ∷ all) = ends_line v.name ends ++ ends_lines events all
 
 -- the text has the number of all events, and then the line of each, by label and number, with such ends
 pub record IsTimesText (p : ProblemLists) (AreEnds : ℕ → Ends → Type 0) (text : List ℕ) : Type 0 where

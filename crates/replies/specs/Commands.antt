@@ -1,5 +1,6 @@
 -- The commands that a line of a script may spell, and those of the code.
-use Rattle.std.specs.Prelude.{◌≡◌, ◌⊎◌, ℕ, ◌<◌, List, [], ◌∷◌, length, Option, Some, None, All, codes, ⊤}
+use Rattle.std.specs.Prelude.{◌≡◌, ◌⊎◌, ℕ, ◌<◌, ◌==◌, List, [], ◌∷◌, length, Option, Some, None, option_map, All, codes, cond, ⊤}
+use Rattle.std.specs.Borrow.{Bor}
 use Rattle.std.specs.Int.{IsInRange}
 use Rattle.line_format.specs.Words.{words}
 use Rattle.queries.specs.declared.comparison.Asked.{Asked}
@@ -8,6 +9,7 @@ use Rattle.replies.specs.declared.command.Command as parsed
 use Rattle.replies.specs.declared.command.Command.TheVariants as commands
 use Rattle.replies.specs.declared.command.Question as asking
 use Rattle.replies.specs.declared.command.Question.TheVariants as questions
+use Rattle.replies.specs.declared.names.Names.{Names}
 
 -- a question about all that was added, with the names of the events that it is about
 pub data Question : Type 0 where
@@ -19,6 +21,7 @@ pub data Question : Type 0 where
   Problem : Question
   Report : Question
   Blame : Question
+  Thin : List (List ℕ) → Question
 
 -- a command with its words: a label and a path, the name of an event, or a question
 pub data Command : Type 0 where
@@ -49,6 +52,17 @@ command_words (Ask (Prove first second)) = codes "prove" ∷ first ∷ second �
 command_words (Ask Problem) = codes "problem" ∷ []
 command_words (Ask Report) = codes "report" ∷ []
 command_words (Ask Blame) = codes "blame" ∷ []
+command_words (Ask (Thin events)) = codes "thin" ∷ events
+
+-- one more byte in front of the first of some words
+abbrev pub onto_first : ℕ → List (List ℕ) → List (List ℕ)
+onto_first b [] = (b ∷ []) ∷ []
+onto_first b (w ∷ ws) = (b ∷ w) ∷ ws
+
+-- what stands before, between and behind the spaces of a text
+abbrev pub spaced : List ℕ → List (List ℕ)
+spaced [] = [] ∷ []
+spaced (b ∷ bytes) = cond (b == 32) ([] ∷ spaced bytes) (onto_first b (spaced bytes))
 
 -- the line spells this command, or none
 abbrev pub Asks : List ℕ → Option Command → Type 0
@@ -72,6 +86,7 @@ TakesMemory (Ask (Prove first second)) = ⊥
 TakesMemory (Ask Problem) = ⊥
 TakesMemory (Ask Report) = ⊤
 TakesMemory (Ask Blame) = ⊤
+TakesMemory (Ask (Thin events)) = ⊤
 
 -- the line spells a command that may be answered by `Memory`
 abbrev pub AsksForMemory : List ℕ → Type 0
@@ -88,19 +103,29 @@ IsReadOff HasRows (Prove first second) = HasRows first
 IsReadOff HasRows Problem = ⊤
 IsReadOff HasRows Report = ⊤
 IsReadOff HasRows Blame = ⊥
+IsReadOff HasRows (Thin events) = ⊤
 
 -- ---- the code
+-- the words of a text that has one at least, and none without a text
+abbrev pub words_in : Option (Bor (List ℕ)) → List (List ℕ)
+words_in None = []
+words_in (Some text) = spaced text.now
+
+-- names of the code, each by itself
+abbrev pub names_seen : Names → List (List ℕ)
+names_seen names = words_in names.text
+
 -- a question of the code, by its words
 abbrev pub question_seen : asking.Question → Question
 question_seen (questions.Compare what first second) = Compare what first.now second.now
 question_seen (questions.Time event) = Time event.now
-question_seen (questions.Times None) = AllTimes None
-question_seen (questions.Times (Some event)) = AllTimes (Some event.now)
+question_seen (questions.Times since) = AllTimes (option_map (λ event. event.now) since)
 question_seen questions.Merge = Merge
 question_seen (questions.Prove first second) = Prove first.now second.now
 question_seen questions.Problem = Problem
 question_seen questions.Report = Report
 question_seen questions.Blame = Blame
+question_seen (questions.Thin events) = Thin (names_seen events)
 
 -- a command of the code, by its words
 abbrev pub command_seen : parsed.Command → Command

@@ -1,5 +1,5 @@
 -- What a session may reply to a command, and what it then has.
-use Rattle.std.specs.Prelude.{◌≡◌, ℕ, zero, suc, ◌+◌, ◌-◌, ◌^◌, ◌<◌, ◌≤◌, ◌⊎◌, List, [], ◌∷◌, ◌++◌, length, map, slice_get, slice_set, Option, Some, None, Bool, true, false, nat_le, ◌&&◌, codes, MatchBool, position}
+use Rattle.std.specs.Prelude.{◌≡◌, ℕ, zero, suc, ◌+◌, ◌-◌, ◌^◌, ◌<◌, ◌≤◌, ◌⊎◌, List, [], ◌∷◌, ◌++◌, length, map, slice_get, slice_set, Option, Some, None, Bool, true, false, nat_le, ◌&&◌, codes, MatchBool, All, Any, position}
 use Rattle.std.specs.Str.{bytes_eq}
 use Rattle.atto.specs.Decimal.{decimal_of}
 use Rattle.line_format.specs.Words.{line_of}
@@ -24,6 +24,7 @@ use Rattle.traces.specs.Traces.{Trace, Captured, Logged, Traces, Missed, Placed,
 use Rattle.traces.specs.Messages.{messages_of, missing, problem_of, problem_of_seen}
 use Rattle.queries.specs.Consistent.{IsConsistent}
 use Rattle.widen.specs.Blame.{IsBlameText}
+use Rattle.thinning.specs.Named.{IsKnown, IsThinText}
 use Rattle.queries.specs.Replies.{HasReading, IsComparisonLine, IsProofText, IsTimeLine, Replies}
 use Rattle.replies.specs.Merged.{IsMergeText}
 use Rattle.replies.specs.AllTimes.{AreTimesBy, AreEndsSince, IsTimesText}
@@ -33,7 +34,7 @@ use Rattle.replies.specs.declared.outcome.Aside.{Aside}
 use Rattle.replies.specs.declared.refusal.Refusal.{Refusal}
 use Rattle.replies.specs.declared.refusal.Refusal.TheVariants.{UnknownLabel, UnreadFile, TooManyBytes, TooManyEvents, UnknownEvent, NoSourceTime, EightAreKept}
 use Rattle.replies.specs.Refusals.{refusal_line, log_refusal, capture_refusal}
-use Rattle.replies.specs.Commands.{Command, Add, Keep, Ask, Question, Compare, Time, AllTimes, Merge, Prove, Problem, Report, Blame}
+use Rattle.replies.specs.Commands.{Command, Add, Keep, Ask, Question, Compare, Time, AllTimes, Merge, Prove, Problem, Report, Blame, Thin}
 
 -- what a session has: the traces, and the events that are kept
 pub record State : Type 0 where
@@ -67,6 +68,10 @@ OfTwo p first second Says text =
 abbrev pub OfOne : ProblemLists → List ℕ → (ℕ → List ℕ → Type 0) → List ℕ → Type 0
 OfOne p event Says text = ((i : ℕ) × HasEvent p i event × Says i text) ⊎ (IsUnknown p event × (text ≡ refusal_line UnknownEvent))
 
+-- what is said of some events by their names, or the refusal where one is unknown
+abbrev pub OfEach : ProblemLists → List (List ℕ) → (List ℕ → Type 0) → List ℕ → Type 0
+OfEach p events Says text = (All (IsKnown p) events × Says text) ⊎ (Any (IsUnknown p) events × (text ≡ refusal_line UnknownEvent))
+
 -- what is said by the source's clock, or the refusal where no source is declared or its clock has no reading
 abbrev pub OfSource : ProblemLists → Option ℕ → (ℕ → List ℕ → Type 0) → List ℕ → Type 0
 OfSource p None Says text = text ≡ refusal_line NoSourceTime
@@ -85,6 +90,11 @@ IsTimesReply p source = OfSource p source (λ clock. IsTimesText p (AreTimesBy p
 abbrev pub IsSinceText : ProblemLists → ℕ → List ℕ → Type 0
 IsSinceText p first text = Replies p (IsTimesText p (AreEndsSince p first)) text
 
+-- what answers the question for the times of all events: by the source's clock, or from the event of a name
+abbrev pub IsTimesAnswer : ProblemLists → Option ℕ → Option (List ℕ) → List ℕ → Type 0
+IsTimesAnswer p source None = IsTimesReply p source
+IsTimesAnswer p source (Some event) = OfOne p event (IsSinceText p)
+
 -- the report on the events of all labels and on the packets under each that have none, by whether the problem of the events
 -- has an execution
 abbrev pub IsReport : Declaration → List (List Seen) → List Missed → List ℕ → Type 0
@@ -94,13 +104,13 @@ IsReport d seen missed text = (b : Bool) × IsConsistent (problem_of_seen d seen
 abbrev pub IsAnswerTo : Question → Declaration → List (List Seen) → List Missed → List ℕ → Type 0
 IsAnswerTo (Compare what first second) d seen missed = let p = problem_of_seen d seen in OfTwo p first second (IsComparisonLine what p)
 IsAnswerTo (Time event) d seen missed = let p = problem_of_seen d seen in OfOne p event (IsTimeReply p d.source)
-IsAnswerTo (AllTimes None) d seen missed = IsTimesReply (problem_of_seen d seen) d.source
-IsAnswerTo (AllTimes (Some event)) d seen missed = let p = problem_of_seen d seen in OfOne p event (IsSinceText p)
+IsAnswerTo (AllTimes since) d seen missed = IsTimesAnswer (problem_of_seen d seen) d.source since
 IsAnswerTo Merge d seen missed = Replies (problem_of_seen d seen) (IsMergeText d seen)
 IsAnswerTo (Prove first second) d seen missed = let p = problem_of_seen d seen in OfTwo p first second (IsProofText p)
 IsAnswerTo Problem d seen missed = λ text. text ≡ problem_text (problem_of_seen d seen)
 IsAnswerTo Report d seen missed = IsReport d seen missed
 IsAnswerTo Blame d seen missed = IsBlameText (problem_of_seen d seen)
+IsAnswerTo (Thin events) d seen missed = let p = problem_of_seen d seen in OfEach p events (IsThinText p events)
 
 -- ---- additions
 -- whether there is an execution, as a word

@@ -1,10 +1,10 @@
 // The command of a line.
-ghost use Rattle.std.specs.Prelude.{◌≡◌, ◌↔◌, ◌∷◌, [], None, IsTrue, option_map, All};
-ghost use Rattle.std.specs.Int.{IsInRange};
-ghost use Rattle.line_format.specs.Cut.{fields};
-ghost use Rattle.replies.specs.Commands.{IsWord, Asks, HasWords, command_seen};
+ghost use Rattle.std.specs.Prelude.{◌≡◌, ◌∷◌, [], codes, option_map};
+ghost use Rattle.replies.specs.Commands as commands;
+ghost use Rattle.replies.specs.Commands.{IsWord, Asks, HasWords, command_seen, names_seen, spaced};
 
-use line_format::{cut, three_words};
+use crate::names::{Names, is_word};
+use line_format::cut;
 use queries::Asked;
 
 /// What is asked of all that was added. Each word is 1 byte or more from 33 to 126.
@@ -45,6 +45,11 @@ pub enum Question<'a> {
     /// By how much each declared bound, or group of bounds, has to be wider so that it alone heals a contradiction, as
     /// `tracesync blame` says it of the problem.
     Blame,
+    /// A smaller problem that says the same of some events, as `tracesync thin` prints it of the problem.
+    Thin {
+        /// The names of the events; there may be none, and one may stand there more than once.
+        events: Names<'a>,
+    },
 }
 
 /// What a line asks for. Each word is 1 byte or more from 33 to 126.
@@ -66,22 +71,6 @@ pub enum Command<'a> {
     Ask(Question<'a>),
 }
 
-fn are_visible(word: &[u8]) -> bool
-    ensures { IsTrue result ↔ All (λ b. IsInRange 33 126 b) word.now }
-{
-    word.iter().all(|b| b.is_ascii_graphic())
-}
-
-// Whether these bytes may be a word of a command.
-fn is_word(word: &[u8]) -> bool
-    ensures { IsTrue result ↔ IsWord word.now }
-{
-    if word.is_empty() {
-        return false;
-    }
-    are_visible(word)
-}
-
 // The text of a word.
 fn text_of(word: &[u8]) -> &str
     requires { IsWord word.now }
@@ -93,8 +82,9 @@ fn text_of(word: &[u8]) -> &str
     }
 }
 
-// The command of three words.
+// The command of three words, of which the last one is what stands behind the second space.
 fn command_of<'a>(name: &[u8], first: &'a [u8], second: &'a [u8]) -> Option<Command<'a>>
+    requires { name.now ≡ codes "thin" → ⊥ }
     ensures { HasWords (name.now ∷ first.now ∷ second.now ∷ []) (option_map command_seen result) }
 {
     if !is_word(first) || !is_word(second) {
@@ -126,6 +116,7 @@ fn command_of<'a>(name: &[u8], first: &'a [u8], second: &'a [u8]) -> Option<Comm
 
 // The command of two words.
 fn command_of_two<'a>(name: &[u8], event: &'a [u8]) -> Option<Command<'a>>
+    requires { name.now ≡ codes "thin" → ⊥ }
     ensures { HasWords (name.now ∷ event.now ∷ []) (option_map command_seen result) }
 {
     if !is_word(event) {
@@ -156,19 +147,38 @@ fn command_of_one(name: &[u8]) -> Option<Command<'_>>
         Some(Command::Ask(Question::Report))
     } else if name == b"blame".as_slice() {
         Some(Command::Ask(Question::Blame))
+    } else if name == b"thin".as_slice() {
+        Some(thin(Names::none()))
     } else {
         None
     }
 }
 
-// The command of fewer than three words.
-fn shorter_command(line: &[u8]) -> Option<Command<'_>>
-    requires { fields 2 line.now ≡ None }
-    ensures { Asks line.now (option_map command_seen result) }
+// The question for a smaller problem with events of these names.
+fn thin(events: Names<'_>) -> Command<'_>
+    ensures { command_seen result ≡ commands.Ask (commands.Thin (names_seen events.entry)) }
 {
-    match cut(b' ', line) {
-        Some((name, event)) => command_of_two(name, event),
-        None => command_of_one(line),
+    Command::Ask(Question::Thin { events })
+}
+
+// The command of the word `thin` and the names behind it.
+fn thin_behind(text: &[u8]) -> Option<Command<'_>>
+    ensures { HasWords (codes "thin" ∷ spaced text.now) (option_map command_seen result) }
+{
+    match Names::of_text(text) {
+        Some(events) => Some(thin(events)),
+        None => None,
+    }
+}
+
+// The command of another word and what stands behind it.
+fn command_behind<'a>(name: &[u8], text: &'a [u8]) -> Option<Command<'a>>
+    requires { name.now ≡ codes "thin" → ⊥ }
+    ensures { HasWords (name.now ∷ spaced text.now) (option_map command_seen result) }
+{
+    match cut(b' ', text) {
+        Some((first, second)) => command_of(name, first, second),
+        None => command_of_two(name, text),
     }
 }
 
@@ -177,8 +187,14 @@ fn shorter_command(line: &[u8]) -> Option<Command<'_>>
 pub fn read_command(line: &[u8]) -> Option<Command<'_>>
     ensures { Asks line.now (option_map command_seen result) }
 {
-    match three_words(line) {
-        Some((name, first, second)) => command_of(name, first, second),
-        None => shorter_command(line),
+    match cut(b' ', line) {
+        Some((name, text)) => {
+            if name == b"thin".as_slice() {
+                thin_behind(text)
+            } else {
+                command_behind(name, text)
+            }
+        }
+        None => command_of_one(line),
     }
 }

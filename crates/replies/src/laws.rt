@@ -32,9 +32,9 @@ pub fn proofs_are_one()
 {}
 
 /// A law, which does nothing when it runs: what was declared and accepted, a line and what its read came to make one
-/// reply, but for which contradiction and which path of bounds is printed, and one state that follows. Contradictions
-/// are printed for `interval`, `order`, `time`, `times`, `merge` and `prove` alone, where no execution exists, and paths
-/// for `prove` alone.
+/// reply, but for which contradiction, which path of bounds and which smaller problem is printed, and one state that
+/// follows. Contradictions are printed for `interval`, `order`, `time`, `times`, `merge` and `prove` alone, where no
+/// execution exists, paths for `prove` alone, and smaller problems for `thin` alone.
 pub fn replies_are_one()
     ensures text { (d : Declaration) (files : Content) (s after other : State) (line a b : List ℕ) (found : Found) → IsDeclaration d → IsState d s → LineReply d files s line found a after → LineReply d files s line found b other → AreOneReply (problem_of d s.traces) line a b }
     ensures next { (d : Declaration) (files : Content) (s after other : State) (line a b : List ℕ) (found : Found) → IsDeclaration d → IsState d s → LineReply d files s line found a after → LineReply d files s line found b other → after ≡ other }
@@ -69,8 +69,8 @@ pub fn reads_are_one()
 {}
 
 /// A law, which does nothing when it runs: a declaration, files, a script and what its reads came to, where that is
-/// bytes, make one output, save the choice of contradictions and of paths of bounds, and one state behind each line and
-/// behind them all.
+/// bytes, make one output, save the choice of contradictions, of paths of bounds and of smaller problems, and one state
+/// behind each line and behind them all.
 pub fn outputs_are_one()
     ensures output { (d : Declaration) (files : Content) (lines a b : List (List ℕ)) (founds : List Found) (after other : State) → IsDeclaration d → All FindsBytes founds → Session d files (start d) lines founds a after → Session d files (start d) lines founds b other → AreOneOutput d files (start d) lines founds a b }
     ensures last { (d : Declaration) (files : Content) (lines a b : List (List ℕ)) (founds : List Found) (after other : State) → IsDeclaration d → All FindsBytes founds → Session d files (start d) lines founds a after → Session d files (start d) lines founds b other → after ≡ other }

@@ -222,11 +222,12 @@ module _ (r : RosterLists) (is : IsRoster r) where
       -- what comes first by number does by place
       pub first_placed : (v : ℕ) (e : Came) → slice_get r.came v ≡ Some e → IsFirstBefore s r.came v (length r.came) →
           (k : ℕ) × (event : Placed) × IsFirstEvent x (events_of seen) k event × (slice_get {X = ℕ × ℕ} (listed r).events k ≡ Some (v, e.node)) × (e.stamp ≡ event.seen.stamp) × (at s.earliest.values e.node ≡ x (nodes.Event k))
+          × (event.id ≡ id_of e)
       first_placed v e came first =
           let q = placed_of v e came in
           let k = q.0 in
           let event = q.1 in
-          (k, event, record { there = q.2; first = λ j other there. behind k event q.2 q.3 j other there }, q.4, stamp_is k v e event came q.4 q.2, time_at k v e event q.2 came (sym q.3))
+          (k, event, record { there = q.2; first = λ j other there. behind k event q.2 q.3 j other there }, q.4, stamp_is k v e event came q.4 q.2, time_at k v e event q.2 came (sym q.3), q.3)
         where
           behind : (k : ℕ) (event : Placed) → slice_get (events_of seen) k ≡ Some event → event.id ≡ id_of e → (j : ℕ) (other : Placed) → slice_get (events_of seen) j ≡ Some other → (j ≡ k) ⊎ ComesFirst (key_at x k event) (key_at x j other)
           behind k event here id_is j other there =

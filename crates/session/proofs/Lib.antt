@@ -20,9 +20,11 @@ mod TakenUnder
 mod TakingOver
 mod Settles
 mod FirstEvents
+mod SinceEvents
 pub mod FromSlots
 pub mod Scripts
 pub mod Replies
 pub mod Places
 pub mod Endings
 mod StartDates
+pub mod AskedEvents

@@ -1,6 +1,5 @@
 -- Replies of a session that stands for traces.
 use Rattle.std.proofs.Common.{◌≡◌, ℕ, ◌≤◌, List, [], ◌∷◌, length, map, Option, Some, None, IfSome, true, nat_le, refl, sym, ◌∙◌, ap, subst, arith}
-use Rattle.std.specs.Prelude.{option_map}
 use Rattle.std.specs.Borrow.{Bor}
 use Rattle.ports.specs.Files.{Content, FilesTold, Keeps}
 use Rattle.decl.specs.Declaration.{Declaration, IsDeclaration}
@@ -18,7 +17,6 @@ use Rattle.replies.specs.declared.command.Question.TheVariants as questions
 use Rattle.replies.specs.Commands.{Command, Add, Keep, Ask, Question, Asks, IsReadOff, question_seen}
 use Rattle.replies.specs.Reply.{State, Found, Unread, IsAnswerTo, KeepReply}
 use Rattle.replies.specs.Sessions.{CommandReply, LineReply, FoundAt, AreCounted}
-use Rattle.session_answers.specs.TimesAsking.{IsTimesAnswer}
 use Rattle.session.specs.Stands.{Held, StandsFor, Stepped, held_parts}
 use Rattle.session.specs.Inside.{UnreadAnswered, CommandAnswered}
 use Rattle.session.proofs.Telling.{Told}
@@ -59,13 +57,7 @@ answered d accepted q IsWritten says kept before after x s stands =
 pub source_keeps : (d : Declaration) (accepted : List Accepted) → IsDeclaration d → IfSome d.source (λ clock. KeepsTime (problem_of_seen d (seen_in accepted)) clock)
 source_keeps d accepted declared = declared.clocks.source_true
 
--- what answers the question for the times of all events answers it as the code asks it
-pub times_answered : (d : Declaration) (seen : List (List Seen)) (missed : List Missed) (since : Option (Bor (List ℕ))) (text : List ℕ) →
-    IsTimesAnswer (problem_of_seen d seen) d.source (option_map (λ (event : Bor (List ℕ)). event.now) since) text → IsAnswerTo (question_seen (questions.Times since)) d seen missed text
-times_answered d seen missed None text is = is
-times_answered d seen missed (Some event) text is = is
-
--- and the event that it names, if any, has rows where it is read off
+-- the event that the question for all times names, if any, has rows where it is read off
 pub times_at_hand : (HasRows : List ℕ → Type 0) (since : Option (Bor (List ℕ))) → IsReadOff HasRows (question_seen (questions.Times since)) → IfSome since (λ event. HasRows event.now)
 times_at_hand HasRows None known = known
 times_at_hand HasRows (Some event) known = known

@@ -42,7 +42,7 @@ pub none_held : (arcs : List Arc) (l : Listed) (p : ProblemLists) → ((x : Time
 none_held [] l p some held = refl
 none_held (a ∷ arcs) l p some held = absurd ((held (λ none. let z : ⊥ = cc in z)).no_execution some.0 some.1)
 
-timed_at : (xs : List Stored) (i : ℕ) (d : Stored) → get_or (all_timed xs) i (timed d) ≡ timed (get_or xs i d)
+pub timed_at : (xs : List Stored) (i : ℕ) (d : Stored) → get_or (all_timed xs) i (timed d) ≡ timed (get_or xs i d)
 timed_at [] i d = refl
 timed_at (x ∷ xs) zero d = refl
 timed_at (x ∷ xs) (suc i) d = timed_at xs i d

@@ -10,3 +10,4 @@ pub mod Stopping
 pub mod Turns
 pub mod Dates
 pub mod Firsts
+pub mod Since

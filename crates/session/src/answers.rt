@@ -15,6 +15,7 @@ ghost use Rattle.session_answers.specs.Keeping.{HasSlotBy};
 use crate::blames::write_blame;
 use crate::lines::written;
 use crate::reports::write_report;
+use crate::thins::write_thin;
 use atto::Steps;
 use ports::Sink;
 use problem_text::write_roster;
@@ -70,5 +71,6 @@ pub(crate) fn answer<O: Sink, L: Ledger>(
         Question::Problem => written(write_roster(names, out)),
         Question::Report => write_report(alloc, accepted, names, matcher, solver, out),
         Question::Blame => write_blame(alloc, names, out, steps),
+        Question::Thin { events } => write_thin(alloc, names, &events, out),
     }
 }

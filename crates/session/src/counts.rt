@@ -23,7 +23,7 @@ fn told_messages(roster: &Roster) -> u64
 }
 
 impl Session {
-    /// How many events were accepted, under all labels together: at most 2^21. It takes a constant time, unless a call
+    /// How many events were accepted, under all labels together: at most 2^24. It takes a constant time, unless a call
     /// before ran out of memory: then it goes through the labels.
     pub fn event_count(&self) -> u64
         ensures { result ≡ event_count (seen_held self.now.under) }

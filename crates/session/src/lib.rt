@@ -3,8 +3,8 @@
 //! A session stands over a declaration. `add LABEL PATH` adds the file at a path to a label; `interval EVENT EVENT`,
 //! `order EVENT EVENT` and `prove EVENT EVENT` ask about two events, and `time EVENT` about one; `merge` writes all
 //! events in one order, `problem` the problem of all that was added, `report` what there is to say of its events, and
-//! `blame` by how much each of its bounds has to be wider so that it alone heals a contradiction. Every line has one
-//! reply: an answer, or `refused` with a number.
+//! `blame` by how much each of its bounds has to be wider so that it alone heals a contradiction; `thin EVENT..` writes a
+//! smaller problem that says the same of some events. Every line has one reply: an answer, or `refused` with a number.
 //!
 //! Between two lines the graph of all that was added stands ready with what is known of it, and questions are answered from
 //! it. An addition brings its events and its messages into that graph, and only what they change of values and rows is
@@ -33,7 +33,9 @@ mod pieces;
 mod reports;
 mod script;
 mod session;
+mod since;
 mod starts;
+mod thins;
 
 pub use ended::Ended;
 pub use kept_packets::AddAnswer;

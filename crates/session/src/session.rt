@@ -88,16 +88,16 @@ impl Session {
     }
 
     /// Writes the reply to a line, which is given without its line feed and has at most 4,096 bytes. A command that is
-    /// refused changes nothing. The steps of its searches are counted: `time`, `merge`, `problem` and `report` take
-    /// none, nor do `interval`, `order` and `prove` where the first event is kept, nor `interval` and `order` where the
-    /// second one is. Where some execution exists before and after an `add`, its steps go by the nodes whose values or
-    /// distances it changes, unless it brings the source's first reading; without a new event it takes none. No call
+    /// refused changes nothing. The steps of its searches are counted: `time`, `merge`, `problem`, `report` and `thin`
+    /// take none, nor do `interval`, `order` and `prove` where the first event is kept, nor `interval` and `order` where
+    /// the second one is. Where some execution exists before and after an `add`, its steps go by the nodes whose values
+    /// or distances it changes, unless it brings the source's first reading; without a new event it takes none. No call
     /// before answered `Memory`.
     ///
     /// `WriteFault` is answered only where the sink's count of faults rose, or stands at its last value: a front of the
     /// reply is then written, and the session is as if all of it were. `Memory` is answered where memory runs out,
-    /// which it may on `add`, `keep`, `merge`, `report` and `blame` alone: nothing is written then, and nothing is
-    /// promised of the session.
+    /// which it may on `add`, `keep`, `merge`, `report`, `blame` and `thin` alone: nothing is written then, and nothing
+    /// is promised of the session.
     pub fn step<F: Files, O: Sink, L: Ledger>(
         &mut self,
         line: &[u8],

@@ -65,8 +65,8 @@ fn first_of_two(names: &Roster, solver: &Solver, first: u32, second: u32) -> u32
     }
 }
 
-// The number of the event that comes first in the merge.
-fn first_event(names: &Roster, solver: &Solver) -> u32
+/// The number of the event that comes first in the merge.
+pub(crate) fn first_event(names: &Roster, solver: &Solver) -> u32
     requires current { IsCurrent solver.now }
     requires solved { solver.now.contradiction ≡ [] }
     requires nodes { KnowsNodes names.now solver.now.graph }

@@ -9,3 +9,4 @@ pub mod Entering
 mod Renewing
 mod RowPairs
 mod TimesTold
+mod SinceTold

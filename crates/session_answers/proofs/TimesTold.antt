@@ -28,31 +28,31 @@ use Rattle.queries.proofs.ListedPairs.{pair_fits, pair_of}
 use Rattle.queries.proofs.Solutions.{event_below, event_by, reading_below, reading_by, reading_is}
 use Rattle.replies.specs.AllTimes.{AreEndsSince, AreTimesBy, IsTimesText, ends_line, ends_lines}
 use Rattle.session_answers.specs.Quantities.{TellsSince, TellsTime, pair_by, source_pair}
-use Rattle.session_answers.specs.TimesTexts.{listed_lines, listed_times, named_ends, times_head}
+use Rattle.session_answers.specs.TimesTexts.{listed_lines, listed_times, times_head}
 use Rattle.queries.proofs.KeptTimes.{by_each}
 use Rattle.session_answers.proofs.RowPairs.{rows_told, source_told}
 
-mapped_at : {A B : Type 0} (f : A → B) (xs : List A) (k : ℕ) (y : B) → slice_get (map f xs) k ≡ Some y → (x : A) × (slice_get xs k ≡ Some x) × (f x ≡ y)
+pub mapped_at : {A B : Type 0} (f : A → B) (xs : List A) (k : ℕ) (y : B) → slice_get (map f xs) k ≡ Some y → (x : A) × (slice_get xs k ≡ Some x) × (f x ≡ y)
 mapped_at f [] k y at = absurd (none-some y at)
 mapped_at f (x ∷ xs) zero y at = (x, refl, same_Some (f x) y at)
 mapped_at f (x ∷ xs) (suc k) y at = mapped_at f xs k y at
 
 -- ---- the text
 -- the line of a listed event, by its name and its ends
-pub line_is : (l : Listed) (e : ℕ × ℕ) (name : List ℕ) (ends other : Ends) → slice_get l.event_names e.0 ≡ Some name → ends ≡ other → named_ends name ends ≡ named_ends (name_at l.event_names e.0) other
+pub line_is : (l : Listed) (e : ℕ × ℕ) (name : List ℕ) (ends other : Ends) → slice_get l.event_names e.0 ≡ Some name → ends ≡ other → ends_line name ends ≡ ends_line (name_at l.event_names e.0) other
 line_is l e name ends other named same =
-    ap (λ (n : List ℕ). named_ends n ends) (sym (get_or_from_slice_get l.event_names e.0 name [] named)) ∙ ap (named_ends (name_at l.event_names e.0)) same
+    ap (λ (n : List ℕ). ends_line n ends) (sym (get_or_from_slice_get l.event_names e.0 name [] named)) ∙ ap (ends_line (name_at l.event_names e.0)) same
 
 lines_are : (names : List (List ℕ)) (ends : ℕ → Ends) (es : List (ℕ × ℕ)) (vs : List Event) → map (λ (e : ℕ × ℕ). name_at names e.0) es ≡ map (λ (v : Event). v.name) vs →
-    flat_map (λ (e : ℕ × ℕ). named_ends (name_at names e.0) (ends e.1)) es ≡ ends_lines vs (map (λ (e : ℕ × ℕ). ends e.1) es)
+    flat_map (λ (e : ℕ × ℕ). ends_line (name_at names e.0) (ends e.1)) es ≡ ends_lines vs (map (λ (e : ℕ × ℕ). ends e.1) es)
 lines_are names ends [] [] same = refl
 lines_are names ends [] (v ∷ vs) same = absurd cc
 lines_are names ends (e ∷ es) [] same = absurd cc
 lines_are names ends (e ∷ es) (v ∷ vs) same =
     let one : name_at names e.0 ≡ v.name = cc in
     let rest : map (λ (e : ℕ × ℕ). name_at names e.0) es ≡ map (λ (v : Event). v.name) vs = cc in
-    ap (λ (name : List ℕ). named_ends name (ends e.1) ++ flat_map (λ (e : ℕ × ℕ). named_ends (name_at names e.0) (ends e.1)) es) one
-    ∙ ap (λ (text : List ℕ). ends_line v (ends e.1) ++ text) (lines_are names ends es vs rest)
+    ap (λ (name : List ℕ). ends_line name (ends e.1) ++ flat_map (λ (e : ℕ × ℕ). ends_line (name_at names e.0) (ends e.1)) es) one
+    ∙ ap (λ (text : List ℕ). ends_line v.name (ends e.1) ++ text) (lines_are names ends es vs rest)
 
 module _ (l : Listed) (p : ProblemLists) (s : SolverLists) (solution : IsSolutionBy l p s) where
   stands : StandsForListed l p (all_readings p.events) s.graph
@@ -97,7 +97,7 @@ module _ (l : Listed) (p : ProblemLists) (s : SolverLists) (solution : IsSolutio
               fits = pair_fits l p s first node (pair_by from to node) solution none inside below (since_pair node);
             }
 
-        since_told : (place node : ℕ) → IsEventAt l place node → AreEndsSince p start place (ends_of (pair_by from to node))
+        pub since_told : (place node : ℕ) → IsEventAt l place node → AreEndsSince p start place (ends_of (pair_by from to node))
         since_told place node at =
             ends_are p (nodes.Event start) (nodes.Event place) (pair_by from to node)
             (pair_of l p (all_readings p.events) s first node (nodes.Event start) (nodes.Event place) (pair_by from to node) (own_readings p) solution

@@ -3,3 +3,4 @@ pub mod Keeping
 pub mod Quantities
 pub mod TimesTexts
 pub mod TimesAsking
+pub mod SinceAsking

@@ -1,5 +1,5 @@
--- What an engine that is asked for the times of all events has at hand, and what is answered.
-use Rattle.std.specs.Prelude.{◌≡◌, ℕ, List, [], Option, Some, None}
+-- What an engine that is asked for the times of all events has at hand.
+use Rattle.std.specs.Prelude.{◌≡◌, ℕ, List, []}
 use Rattle.problem_model.specs.Problem.{ProblemLists}
 use Rattle.problem.specs.Listing.{Listed}
 use Rattle.problem_graph.specs.ListedStanding.{IsEventAt}
@@ -9,7 +9,6 @@ use Rattle.queries.specs.Asking.{IsSourceReading}
 use Rattle.queries.specs.Clocks.{KeepsTime}
 use Rattle.queries.specs.Replies.{Replies}
 use Rattle.replies.specs.AllTimes.{AreEndsSince, AreTimesBy, IsTimesText}
-use Rattle.replies.specs.Reply.{IsSinceText, IsTimesReply, OfOne}
 
 -- an execution of a listed problem is held, and the node is that of a listed event
 pub record IsAskedSince (l : Listed) (s : SolverLists) (first : ℕ) : Type 0 where
@@ -28,8 +27,3 @@ RepliesSince l s first Becomes = (p : ProblemLists) (place : ℕ) → IsSolution
 abbrev pub RepliesWithTimes : Listed → SolverLists → ℕ → (List ℕ → Type 0) → Type 0
 RepliesWithTimes l s stamp Becomes = (p : ProblemLists) (clock : ℕ) → IsSolutionBy l p s → KeepsTime p clock
     → IsSourceReading l s clock stamp → (text : List ℕ) × Replies p (IsTimesText p (AreTimesBy p clock)) text × Becomes text
-
--- what answers the question for the times of all events: by the source's clock, or from the event of a name
-abbrev pub IsTimesAnswer : ProblemLists → Option ℕ → Option (List ℕ) → List ℕ → Type 0
-IsTimesAnswer p source None = IsTimesReply p source
-IsTimesAnswer p source (Some event) = OfOne p event (IsSinceText p)

@@ -5,11 +5,7 @@ use Rattle.atto.specs.Decimal.{decimal_of}
 use Rattle.line_format.specs.Words.{line_of}
 use Rattle.problem.specs.Listing.{Listed, name_at}
 use Rattle.intervals.specs.declared.ends.Ends.{Ends}
-use Rattle.queries.specs.Words.{end_word}
-
--- the line of a name with ends
-abbrev pub named_ends : List ℕ → Ends → List ℕ
-named_ends name ends = line_of (name ∷ end_word (codes "-inf") ends.least ∷ end_word (codes "+inf") ends.greatest ∷ [])
+use Rattle.replies.specs.AllTimes.{ends_line}
 
 -- the line of the number of events
 abbrev pub times_head : ℕ → List ℕ
@@ -17,7 +13,7 @@ times_head count = line_of (codes "times" ∷ decimal_of count ∷ [])
 
 -- the lines of the listed events, by the ends at each node
 abbrev pub listed_lines : Listed → (ℕ → Ends) → List ℕ
-listed_lines l ends = flat_map (λ (e : ℕ × ℕ). named_ends (name_at l.event_names e.0) (ends e.1)) l.events
+listed_lines l ends = flat_map (λ (e : ℕ × ℕ). ends_line (name_at l.event_names e.0) (ends e.1)) l.events
 
 -- the whole text
 abbrev pub listed_times : Listed → (ℕ → Ends) → List ℕ

@@ -8,7 +8,7 @@ use roster::Roster;
 use traces::EventId;
 
 /// The event of this name, and its node.
-pub(crate) fn find_event(names: &Roster, name: &[u8]) -> Option<(EventId, u32)>
+pub fn find_event(names: &Roster, name: &[u8]) -> Option<(EventId, u32)>
     ensures lawful { IsRoster names.now }
     ensures some { IfSome result (λ found. IsCalled names.now name.now found.0 found.1) }
     ensures none { IfNone result (Finds names.now name.now None) }

@@ -60,8 +60,8 @@ fn time_at(solver: &Solver, stamp: Nano, node: u32) -> Ends
     }
 }
 
-// The ends of the real time to a node, by the rows of another.
-fn since_at(from: &[Cell], to: &[Cell], node: u32) -> Ends
+/// The ends of the real time to a node, by the rows of another.
+pub(crate) fn since_at(from: &[Cell], to: &[Cell], node: u32) -> Ends
     requires { TellsSince from.now to.now node }
     ensures { result ≡ ends_of (pair_by from.now to.now node) }
 {

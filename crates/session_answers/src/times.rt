@@ -9,10 +9,10 @@ ghost use Rattle.solver.specs.Changes.{LeavesAnswer};
 ghost use Rattle.solver.specs.Solution.{IsSolutionBy};
 ghost use Rattle.queries.specs.Asking.{IsAtHand, IsSourceReading};
 ghost use Rattle.queries.specs.Clocks.{KeepsTime};
-ghost use Rattle.replies.specs.Reply.{IsSinceText, IsTimesReply, OfOne};
+ghost use Rattle.replies.specs.Reply.{IsSinceText, IsTimesAnswer, IsTimesReply, OfOne};
 ghost use Rattle.session_answers.specs.Ready.{KeepsSource};
 ghost use Rattle.session_answers.specs.Keeping.{HasSlotBy};
-ghost use Rattle.session_answers.specs.TimesAsking.{IsAskedSince, IsTimesAnswer, RepliesSince, RepliesWithTimes};
+ghost use Rattle.session_answers.specs.TimesAsking.{IsAskedSince, RepliesSince, RepliesWithTimes};
 
 use crate::events::find_event;
 use crate::quantity::Quantity;

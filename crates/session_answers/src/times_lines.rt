@@ -3,7 +3,8 @@ ghost use Rattle.std.specs.Prelude.{◌≡◌, ℕ};
 ghost use Rattle.problem_graph.specs.ListedStanding.{IsEventAt};
 ghost use Rattle.ports.specs.Content.{Writes};
 ghost use Rattle.session_answers.specs.Quantities.{HasEnds, ends_at};
-ghost use Rattle.session_answers.specs.TimesTexts.{listed_lines, listed_times, named_ends, times_head};
+ghost use Rattle.replies.specs.AllTimes.{ends_line};
+ghost use Rattle.session_answers.specs.TimesTexts.{listed_lines, listed_times, times_head};
 
 use crate::quantity::{Quantity, ends_at};
 use intervals::Ends;
@@ -16,7 +17,7 @@ use queries::ends_line;
 
 // The line of an event's ends.
 fn event_line(name: &Name, ends: &Ends) -> Line
-    ensures { result.items ≡ named_ends name.now ends.now }
+    ensures { result.items ≡ ends_line name.now ends.now }
 {
     ends_line(name.bytes(), ends)
 }

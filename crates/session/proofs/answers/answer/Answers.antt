@@ -16,7 +16,7 @@ use Rattle.session_answers.proofs.AskedRows.{answers_left}
 use Rattle.session_answers.proofs.Engines.{spare_free, told}
 use Rattle.session_graph.proofs.Held.{labels_many}
 use Rattle.session_answers.specs.Keeping.{HasSlotBy}
-use Rattle.session.proofs.Replying.{source_keeps, times_answered, times_at_hand}
+use Rattle.session.proofs.Replying.{source_keeps, times_at_hand}
 use Rattle.session.proofs.answers.answer.Goals as goal
 
 pub ask_comparison-requires-clause-solution : goal.ask_comparison-requires-clause-solution
@@ -80,7 +80,7 @@ returns-in-Times-clause-writes g c =
     let seen = seen_in c.args.accepted.now in
     let are = c.requires.ready.1 in
     let t = c.ask_times.ensures.writes (answers_problem a seen) d.source are.graph.solution (source_keeps d c.args.accepted.now are.lawful.declared) are.source_slot in
-    rw c.in-Times.is (such_of (IsAnswerTo (question_seen (questions.Times c.in-Times.since)) d seen (missed_in c.args.accepted.now)) (times_answered d seen (missed_in c.args.accepted.now) c.in-Times.since t.0 t.1) (c.written-in-Times.ensures.writes t.0 _ _ t.2))
+    rw c.in-Times.is (such_of (IsAnswerTo (question_seen (questions.Times c.in-Times.since)) d seen (missed_in c.args.accepted.now)) t.1 (c.written-in-Times.ensures.writes t.0 _ _ t.2))
 
 pub returns-in-Times-clause-ready : goal.returns-in-Times-clause-ready
 returns-in-Times-clause-ready g c = λ kept are. answers_left (seen_in c.args.accepted.now) kept c.args.answers.now _ are c.ask_times.ensures.leaves
@@ -141,3 +141,17 @@ returns-in-Blame-clause-writes g c =
     let are = c.requires.ready.1 in
     let lawful = problem_lawful r.declaration seen are.lawful.declared (labels_many r are.lawful seen are.graph.holds) c.requires.few are.graph.stamps in
     rw c.in-Blame.is (c.write_blame.ensures.writes seen are.graph.holds (told seen r c.args.answers.now.graph.solver are.graph) lawful)
+
+pub write_thin-requires : goal.write_thin-requires
+write_thin-requires g c =
+    let a = c.args.answers.now in
+    let graph = c.requires.ready.1.graph in
+    record { told = (seen_in c.args.accepted.now, graph.holds, told (seen_in c.args.accepted.now) a.graph.roster a.graph.solver graph) }
+
+pub returns-in-Thin-clause-writes : goal.returns-in-Thin-clause-writes
+returns-in-Thin-clause-writes g c =
+    let r = c.args.answers.now.graph.roster in
+    let seen = seen_in c.args.accepted.now in
+    let are = c.requires.ready.1 in
+    let lawful = problem_lawful r.declaration seen are.lawful.declared (labels_many r are.lawful seen are.graph.holds) c.requires.few are.graph.stamps in
+    rw c.in-Thin.is (c.write_thin.ensures.writes seen are.graph.holds (told seen r c.args.answers.now.graph.solver are.graph) lawful)
