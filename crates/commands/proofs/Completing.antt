@@ -34,7 +34,8 @@ use Rattle.commands.specs.Trials.{IsNumber, Tried, TriedBy}
 use Rattle.problem_commands.specs.Verify.{Verified}
 use Rattle.problem_commands.specs.Widening.{RefusesWidening, TellsLeastNamed, WideningFound, WideningJudged}
 use Rattle.problem_commands.specs.Blame.{TellsBlame, Blamed}
-use Rattle.problem_commands.specs.Thin.{IsKnown, TellsThin, ProblemThinned}
+use Rattle.thinning.specs.Named.{IsKnown}
+use Rattle.problem_commands.specs.Thin.{TellsThin, ProblemThinned}
 use Rattle.problem_commands.specs.declared.refusal.Refusal.{Refusal}
 use Rattle.problem_commands.specs.declared.status.Status.{Status}
 use Rattle.problem_commands.specs.declared.status.Status.TheVariants as statuses
@@ -302,27 +303,27 @@ module _ (files files' : FilesTold) (input input' : SourceTold) (out out' : Sink
   mergecap_answered decl result lawful = printed (MergedAt decl (reads files input) (reads files' input')) out out' result (merged_goes decl lawful.0 lawful.1) no_write
 
   -- the same with dates
-  dated_over_goes : (d : Declaration) → IsSomeAnd input.left (λ bytes. length bytes ≤ most_taken) → (status : Status) (text : List ℕ) → DatedOver d (reads files input) (reads files' input') status text → IsAnswered status
-  dated_over_goes d short status text (inl (ordered, taps, shift, merges, written, back, only)) = inl only.0
-  dated_over_goes d short status text (inr (whys.Refused said, not, tells)) = inr (inr (inr tells.0))
-  dated_over_goes d short status text (inr (whys.Size, not, tells)) = inr (inr (inr tells.0))
-  dated_over_goes d short status text (inr (whys.Inconsistent, not, tells)) = inr (inr (inr tells.0))
-  dated_over_goes d short status text (inr (whys.Links, not, tells)) = absurd not
-  dated_over_goes d short status text (inr (whys.Range, not, tells)) = inr (inr (inr tells.0))
-  dated_over_goes d short status text (inr (whys.ReadFault, not, tells)) = absurd (no_read not.0)
-  dated_over_goes d short status text (inr (whys.Limit, not, tells)) = absurd (long_merge d input.left short not)
-  dated_over_goes d short status text (inr (whys.Memory, not, tells)) = absurd tells
+  dated_over_goes : (d : Declaration) (name : Option (List ℕ)) → IsSomeAnd input.left (λ bytes. length bytes ≤ most_taken) → (status : Status) (text : List ℕ) → DatedOver d name (reads files input) (reads files' input') status text → IsAnswered status
+  dated_over_goes d name short status text (inl (ordered, taps, shift, since, each, merges, written, back, only)) = inl only.0
+  dated_over_goes d name short status text (inr (whys.Refused said, not, tells)) = inr (inr (inr tells.0))
+  dated_over_goes d name short status text (inr (whys.Size, not, tells)) = inr (inr (inr tells.0))
+  dated_over_goes d name short status text (inr (whys.Inconsistent, not, tells)) = inr (inr (inr tells.0))
+  dated_over_goes d name short status text (inr (whys.Links, not, tells)) = absurd not
+  dated_over_goes d name short status text (inr (whys.Range, not, tells)) = inr (inr (inr tells.0))
+  dated_over_goes d name short status text (inr (whys.ReadFault, not, tells)) = absurd (no_read not.0)
+  dated_over_goes d name short status text (inr (whys.Limit, not, tells)) = absurd (long_merge d input.left short not)
+  dated_over_goes d name short status text (inr (whys.Memory, not, tells)) = absurd tells
 
-  dated_goes : (decl : List ℕ) → ((d : Declaration) × Holds files.content decl (λ bytes. IsDocumentOf bytes d)) → IsSomeAnd input.left (λ bytes. length bytes ≤ most_taken) → (status : Status) (text : List ℕ) →
-      DatedAt decl (reads files input) (reads files' input') status text → IsAnswered status
-  dated_goes decl lawful short status text (inl (d, has, over)) = dated_over_goes d short status text over
-  dated_goes decl (d, held) short status text (inr (undeclared.Faulty number section index, fault, same, tells)) = absurd (merge_fault decl d number section index held fault)
-  dated_goes decl (d, held) short status text (inr (undeclared.Unread, missed, same, tells)) = absurd (not_missed (λ bytes. IsDocumentOf bytes d) decl files files' held no_file missed)
-  dated_goes decl lawful short status text (inr (undeclared.Memory, is, same, tells)) = absurd tells
+  dated_goes : (decl : List ℕ) (name : Option (List ℕ)) → ((d : Declaration) × Holds files.content decl (λ bytes. IsDocumentOf bytes d)) → IsSomeAnd input.left (λ bytes. length bytes ≤ most_taken) → (status : Status) (text : List ℕ) →
+      DatedAt decl name (reads files input) (reads files' input') status text → IsAnswered status
+  dated_goes decl name lawful short status text (inl (d, has, over)) = dated_over_goes d name short status text over
+  dated_goes decl name (d, held) short status text (inr (undeclared.Faulty number section index, fault, same, tells)) = absurd (merge_fault decl d number section index held fault)
+  dated_goes decl name (d, held) short status text (inr (undeclared.Unread, missed, same, tells)) = absurd (not_missed (λ bytes. IsDocumentOf bytes d) decl files files' held no_file missed)
+  dated_goes decl name lawful short status text (inr (undeclared.Memory, is, same, tells)) = absurd tells
 
-  dated_answered : (decl : List ℕ) (result : Status) → ((d : Declaration) × Holds files.content decl (λ bytes. IsDocumentOf bytes d)) × IsSomeAnd input.left (λ bytes. length bytes ≤ most_taken)
-      → Prints (DatedAt decl (reads files input) (reads files' input')) out out' result → IsAnswered result
-  dated_answered decl result lawful = printed (DatedAt decl (reads files input) (reads files' input')) out out' result (dated_goes decl lawful.0 lawful.1) no_write
+  dated_answered : (decl : List ℕ) (name : Option (List ℕ)) (result : Status) → ((d : Declaration) × Holds files.content decl (λ bytes. IsDocumentOf bytes d)) × IsSomeAnd input.left (λ bytes. length bytes ≤ most_taken)
+      → Prints (DatedAt decl name (reads files input) (reads files' input')) out out' result → IsAnswered result
+  dated_answered decl name result lawful = printed (DatedAt decl name (reads files input) (reads files' input')) out out' result (dated_goes decl name lawful.0 lawful.1) no_write
 
 -- ---- whatever was asked for
 pub all_answered : HaveOneAnswer → (a : Asked) (old new : Devices) (result : Status) → Answers a old new result → IsLawfulInput a old.files.content old.input.left → IsFaultless old new → IsAnswered result
@@ -338,8 +339,8 @@ all_answered law (Blame problem) old new result answers lawful none = blame_answ
 all_answered law (Thin problem names) old new result answers lawful none = thin_answered law old new none problem names result lawful answers
 all_answered law (Mergecap decl) old new result answers lawful none =
     mergecap_answered old.files new.files old.input new.input old.out new.out none.files none.input none.out decl result lawful answers
-all_answered law (MergeDated decl) old new result answers lawful none =
-    dated_answered old.files new.files old.input new.input old.out new.out none.files none.input none.out decl result lawful answers
+all_answered law (MergeDated decl event) old new result answers lawful none =
+    dated_answered old.files new.files old.input new.input old.out new.out none.files none.input none.out decl event result lawful answers
 all_answered law Help old new result answers lawful none = help_answered old new none help_text result answers
 all_answered law Version old new result answers lawful none = help_answered old new none version_text result answers
 all_answered law Nothing old new result answers lawful none = absurd lawful

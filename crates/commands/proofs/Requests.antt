@@ -1,4 +1,4 @@
--- Words of which there are three, and words whose first one is known.
+-- Words of which there are three or four, and words whose first one is known.
 use Rattle.std.proofs.Common.{◌≡◌, ◌<◌, ℕ, Bool, true, false, if◌then◌else◌, List, [], ◌∷◌, length, drop, slice_get, Some, codes, sym, ap, refl, ◌∙◌, arith}
 use Rattle.std.specs.Str.{bytes_eq}
 use Rattle.commands.specs.Asked.{Asked, asked_by, asked_few, asked_of, thin_by}
@@ -10,6 +10,15 @@ three (u ∷ []) a b c count x y z = absurd (omega (arith, count))
 three (u ∷ v ∷ []) a b c count x y z = absurd (omega (arith, count))
 three (u ∷ v ∷ w ∷ []) a b c count x y z = cc
 three (u ∷ v ∷ w ∷ t ∷ ws) a b c count x y z = absurd (omega (arith, count))
+
+pub four : (ws : List (List ℕ)) (a b c d : List ℕ) → length ws ≡ 4 → slice_get ws 0 ≡ Some a → slice_get ws 1 ≡ Some b → slice_get ws 2 ≡ Some c → slice_get ws 3 ≡ Some d
+    → ws ≡ a ∷ b ∷ c ∷ d ∷ []
+four [] a b c d count x y z w = absurd (omega (arith, count))
+four (t ∷ []) a b c d count x y z w = absurd (omega (arith, count))
+four (t ∷ u ∷ []) a b c d count x y z w = absurd (omega (arith, count))
+four (t ∷ u ∷ v ∷ []) a b c d count x y z w = absurd (omega (arith, count))
+four (t ∷ u ∷ v ∷ s ∷ []) a b c d count x y z w = cc
+four (t ∷ u ∷ v ∷ s ∷ r ∷ ws) a b c d count x y z w = absurd (omega (arith, count))
 
 same_word : (x a : List ℕ) → Some x ≡ Some a → x ≡ a
 same_word x a same = cc

@@ -1,5 +1,5 @@
 -- What the words of each command ask for.
-use Rattle.std.proofs.Common.{◌≡◌, ℕ, List, [], ◌∷◌, codes, refl}
+use Rattle.std.proofs.Common.{◌≡◌, ℕ, List, [], ◌∷◌, Some, None, codes, refl}
 use Rattle.commands.specs.Asked.{Asked, asked_of}
 use Rattle.commands.specs.Asked.Asked.{Obey, Solve, Ends, Verify, Session, Trial, Widen, Judge, Blame, Thin, Mergecap, MergeDated, Help, Version, Nothing}
 
@@ -56,8 +56,11 @@ no_thin = refl
 mergecap : (decl : List ℕ) → asked_of (codes "mergecap" ∷ decl ∷ []) ≡ Mergecap decl
 mergecap decl = refl
 
-merge_dated : (decl : List ℕ) → asked_of (codes "mergecap" ∷ decl ∷ codes "pcapng" ∷ []) ≡ MergeDated decl
+merge_dated : (decl : List ℕ) → asked_of (codes "mergecap" ∷ decl ∷ codes "pcapng" ∷ []) ≡ MergeDated decl None
 merge_dated decl = refl
+
+merge_since : (decl event : List ℕ) → asked_of (codes "mergecap" ∷ decl ∷ codes "pcapng" ∷ event ∷ []) ≡ MergeDated decl (Some event)
+merge_since decl event = refl
 
 -- a format that there is not
 no_format : (decl : List ℕ) → asked_of (codes "mergecap" ∷ decl ∷ codes "pcap" ∷ []) ≡ Nothing

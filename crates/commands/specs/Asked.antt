@@ -1,5 +1,5 @@
 -- What the words of a run ask for.
-use Rattle.std.specs.Prelude.{ℕ, List, [], ◌∷◌, ◌++◌, drop, codes, if◌then◌else◌, ⊤}
+use Rattle.std.specs.Prelude.{ℕ, List, [], ◌∷◌, ◌++◌, Option, Some, None, drop, codes, if◌then◌else◌, ⊤}
 use Rattle.std.specs.Str.{bytes_eq}
 use Rattle.problem_commands.specs.WhatWords.{links_kind, clocks_kind}
 use Rattle.commands.specs.declared.request.Request.{Request}
@@ -20,7 +20,7 @@ pub data Asked : Type 0 where
   Blame : List ℕ → Asked
   Thin : List ℕ → List (List ℕ) → Asked
   Mergecap : List ℕ → Asked
-  MergeDated : List ℕ → Asked
+  MergeDated : List ℕ → Option (List ℕ) → Asked
   Help : Asked
   Version : Asked
   Nothing : Asked
@@ -44,9 +44,9 @@ widen_link problem kind from to =
     if bytes_eq kind (codes "delays") then Widen problem (codes "delays" ∷ from ∷ to ∷ [])
     else if bytes_eq kind (codes "least") then Widen problem (codes "least" ∷ from ∷ to ∷ []) else Nothing
 
--- the merged capture in a format of its own
-abbrev pub merge_as : List ℕ → List ℕ → Asked
-merge_as decl format = if bytes_eq format (codes "pcapng") then MergeDated decl else Nothing
+-- the merged capture in a format of its own, with real times since the event of a name, or where none is given since the first of all
+abbrev pub merge_as : List ℕ → List ℕ → Option (List ℕ) → Asked
+merge_as decl format event = if bytes_eq format (codes "pcapng") then MergeDated decl event else Nothing
 
 -- what a first word asks for, by the words behind it; without more `widen` asks for all greatest delays
 abbrev pub asked_by : List ℕ → List (List ℕ) → Asked
@@ -63,10 +63,11 @@ asked_by name (a ∷ b ∷ []) =
     else if bytes_eq name (codes "verify") then Verify a b
     else if bytes_eq name (codes "judge") then Judge a b
     else if bytes_eq name (codes "widen") then widen_all a b
-    else if bytes_eq name (codes "mergecap") then merge_as a b else Nothing
+    else if bytes_eq name (codes "mergecap") then merge_as a b None else Nothing
 asked_by name (a ∷ b ∷ c ∷ []) =
     if bytes_eq name (codes "ends") then Ends a b c
-    else if bytes_eq name (codes "widen") then widen_clock a b c else Nothing
+    else if bytes_eq name (codes "widen") then widen_clock a b c
+    else if bytes_eq name (codes "mergecap") then merge_as a b (Some c) else Nothing
 asked_by name (a ∷ b ∷ c ∷ d ∷ []) = if bytes_eq name (codes "widen") then widen_link a b c d else Nothing
 asked_by name (a ∷ b ∷ c ∷ d ∷ e ∷ more) = Nothing
 
@@ -102,7 +103,8 @@ seen_request (request.Judge problem widening) = Judge problem.now widening.now
 seen_request (request.Blame problem) = Blame problem.now
 seen_request (request.Thin problem words) = Thin problem.now (drop 2 words.now)
 seen_request (request.Mergecap decl) = Mergecap decl.now
-seen_request (request.MergeDated decl) = MergeDated decl.now
+seen_request (request.MergeDated decl) = MergeDated decl.now None
+seen_request (request.MergeSince decl event) = MergeDated decl.now (Some event.now)
 seen_request request.Help = Help
 seen_request request.Version = Version
 seen_request request.Nothing = Nothing
@@ -119,13 +121,13 @@ ReadsNoFile _ = ⊥
 abbrev pub ReadsNoScript : Asked → Type 0
 ReadsNoScript (Session decl) = ⊥
 ReadsNoScript (Mergecap decl) = ⊥
-ReadsNoScript (MergeDated decl) = ⊥
+ReadsNoScript (MergeDated decl event) = ⊥
 ReadsNoScript _ = ⊤
 
 -- ---- what is printed without a file
 -- where nothing that there is was asked for
 abbrev pub usage_line : List ℕ
-usage_line = codes "usage: tracesync obey PROBLEM EXEC | solve PROBLEM | ends PROBLEM P Q | verify PROBLEM CERT | session DECL | trial N | widen PROBLEM WHAT.. | judge PROBLEM WIDENING | blame PROBLEM | thin PROBLEM P.. | mergecap DECL [pcapng] | --help | --version\n"
+usage_line = codes "usage: tracesync obey PROBLEM EXEC | solve PROBLEM | ends PROBLEM P Q | verify PROBLEM CERT | session DECL | trial N | widen PROBLEM WHAT.. | judge PROBLEM WIDENING | blame PROBLEM | thin PROBLEM P.. | mergecap DECL [pcapng [EVENT]] | --help | --version\n"
 
 -- the commands, each with what it is for
 abbrev pub help_text : List ℕ
@@ -143,7 +145,8 @@ help_text =
     ++ codes "  blame PROBLEM           by how much bounds of each kind, clock and link must widen so that these alone heal a contradiction\n"
     ++ codes "  thin PROBLEM P..        a problem of fewer messages and events, P.. among them: `ends` of each two is as in the whole one\n"
     ++ codes "  mergecap DECL < SCRIPT  the packets of all captures that SCRIPT adds, as one capture in the order of their events' times\n"
-    ++ codes "                          with `pcapng` behind DECL, as a file of pcapng: dates as stamps, an interface for each label\n"
+    ++ codes "                          with `pcapng` behind DECL, as a file of pcapng: dates as stamps, an interface for each label, and\n"
+    ++ codes "                          how long each packet was after the first event of all, or after EVENT behind `pcapng`\n"
     ++ codes "\n"
     ++ codes "DECL, PROBLEM, EXEC, CERT and WIDENING are paths of files, relative to where you stand; N is a number below 2^32. What is\n"
     ++ codes "asked for is printed on the standard output. With status 7 a file is not there or cannot be read, or a read of the script\n"
@@ -152,4 +155,4 @@ help_text =
 
 -- the number of the version, by the changelog
 abbrev pub version_text : List ℕ
-version_text = codes "tracesync 28\n"
+version_text = codes "tracesync 29\n"

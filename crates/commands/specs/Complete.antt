@@ -17,7 +17,7 @@ use Rattle.session.specs.Script.{Devices}
 use Rattle.commands.specs.Asked.{Asked}
 use Rattle.commands.specs.Asked.Asked.{Obey, Solve, Ends, Verify, Session, Trial, Widen, Judge, Blame, Thin, Mergecap, MergeDated, Help, Version, Nothing}
 use Rattle.commands.specs.Trials.{IsNumber}
-use Rattle.problem_commands.specs.Thin.{IsKnown}
+use Rattle.thinning.specs.Named.{IsKnown}
 use Rattle.problem_commands.specs.Texts.{SpellsProblem, SpellsCert}
 use Rattle.problem_commands.specs.Widening.{SpellsWidening}
 use Rattle.problem_commands.specs.declared.status.Status.{Status}
@@ -63,7 +63,7 @@ IsLawfulInput (Judge problem widening) files script = HoldsProblem files problem
 IsLawfulInput (Blame problem) files script = HoldsProblem files problem (λ p. Unit {0})
 IsLawfulInput (Thin problem names) files script = HoldsProblem files problem (λ p. All (IsKnown p) names)
 IsLawfulInput (Mergecap decl) files script = HasScript files decl script
-IsLawfulInput (MergeDated decl) files script = HasScript files decl script
+IsLawfulInput (MergeDated decl event) files script = HasScript files decl script
 IsLawfulInput Help files script = Unit {0}
 IsLawfulInput Version files script = Unit {0}
 IsLawfulInput Nothing files script = ⊥

@@ -36,7 +36,7 @@ Answers (Judge problem widening) old new result = Prints (WideningJudged problem
 Answers (Blame problem) old new result = Prints (Blamed problem old.files new.files) old.out new.out result
 Answers (Thin problem names) old new result = Prints (ProblemThinned problem names old.files new.files) old.out new.out result
 Answers (Mergecap decl) old new result = Prints (MergedAt decl (reads old.files old.input) (reads new.files new.input)) old.out new.out result
-Answers (MergeDated decl) old new result = Prints (DatedAt decl (reads old.files old.input) (reads new.files new.input)) old.out new.out result
+Answers (MergeDated decl event) old new result = Prints (DatedAt decl event (reads old.files old.input) (reads new.files new.input)) old.out new.out result
 Answers Help old new result = Closes help_text Done old.out new.out result
 Answers Version old new result = Closes version_text Done old.out new.out result
 Answers Nothing old new result = Closes usage_line Usage old.out new.out result
@@ -44,7 +44,7 @@ Answers Nothing old new result = Closes usage_line Usage old.out new.out result
 -- what it notes beside that, on a sink of its own: a merge alone notes something
 abbrev pub Notes : Asked → Devices → Devices → SinkTold → SinkTold → Status → Type 0
 Notes (Mergecap decl) old new before after result = NotedAt decl (reads old.files old.input) (reads new.files new.input) before after result
-Notes (MergeDated decl) old new before after result = NotedAt decl (reads old.files old.input) (reads new.files new.input) before after result
+Notes (MergeDated decl event) old new before after result = NotedAt decl (reads old.files old.input) (reads new.files new.input) before after result
 Notes _ old new before after result = after ≡ before
 
 -- what a run of these words over these devices prints, notes, reads and answers: the promises of `run`, one after another

@@ -3,10 +3,10 @@ ghost use Rattle.std.specs.Prelude.{◌≡◌};
 ghost use Rattle.commands.specs.Asked.{help_text, usage_line, version_text};
 
 const USAGE: &[u8] =
-    b"usage: tracesync obey PROBLEM EXEC | solve PROBLEM | ends PROBLEM P Q | verify PROBLEM CERT | session DECL | trial N | widen PROBLEM WHAT.. | judge PROBLEM WIDENING | blame PROBLEM | thin PROBLEM P.. | mergecap DECL [pcapng] | --help | --version\n";
+    b"usage: tracesync obey PROBLEM EXEC | solve PROBLEM | ends PROBLEM P Q | verify PROBLEM CERT | session DECL | trial N | widen PROBLEM WHAT.. | judge PROBLEM WIDENING | blame PROBLEM | thin PROBLEM P.. | mergecap DECL [pcapng [EVENT]] | --help | --version\n";
 
 // The number of the newest entry of CHANGELOG.md.
-const VERSION: &[u8] = b"tracesync 28\n";
+const VERSION: &[u8] = b"tracesync 29\n";
 
 // tracesync prints these lines where no program is built.
 const HELP: &[u8] = br"usage: tracesync COMMAND WORD..
@@ -23,7 +23,8 @@ const HELP: &[u8] = br"usage: tracesync COMMAND WORD..
   blame PROBLEM           by how much bounds of each kind, clock and link must widen so that these alone heal a contradiction
   thin PROBLEM P..        a problem of fewer messages and events, P.. among them: `ends` of each two is as in the whole one
   mergecap DECL < SCRIPT  the packets of all captures that SCRIPT adds, as one capture in the order of their events' times
-                          with `pcapng` behind DECL, as a file of pcapng: dates as stamps, an interface for each label
+                          with `pcapng` behind DECL, as a file of pcapng: dates as stamps, an interface for each label, and
+                          how long each packet was after the first event of all, or after EVENT behind `pcapng`
 
 DECL, PROBLEM, EXEC, CERT and WIDENING are paths of files, relative to where you stand; N is a number below 2^32. What is
 asked for is printed on the standard output. With status 7 a file is not there or cannot be read, or a read of the script

@@ -6,7 +6,7 @@ ghost use Rattle.commands.specs.Asked.{asked_of, seen_request, ReadsNoFile, Read
 ghost use Rattle.commands.specs.Runs.{Answers, Notes};
 ghost use Rattle.commands.specs.Complete.{IsLawfulInput, IsFaultless, IsAnswered};
 
-use crate::dated::mergecap_dated;
+use crate::dated::{mergecap_dated, mergecap_since};
 use crate::declaration::DeclFile;
 use crate::help::{help, usage, version};
 use crate::merged::mergecap;
@@ -109,6 +109,10 @@ fn run_counted<F: Files, I: Source, O: Sink, N: Sink, L: Ledger>(
             let file = DeclFile { alloc, path: decl };
             mergecap_dated(&file, files, input, out, &mut steps, notes)
         }
+        Request::MergeSince { decl, event } => {
+            let file = DeclFile { alloc, path: decl };
+            mergecap_since(&file, event, files, input, out, &mut steps, notes)
+        }
         Request::Help => finish(help(), Status::Done, out),
         Request::Version => finish(version(), Status::Done, out),
         Request::Nothing => finish(usage(), Status::Usage, out),
@@ -132,7 +136,8 @@ fn run_counted<F: Files, I: Source, O: Sink, N: Sink, L: Ledger>(
 /// difference of each two events that it has, and an execution exactly where the whole one has; `mergecap DECL` adds
 /// what the lines of the input say, each an `add`, in a session over the declaration, and prints the packets of all
 /// captures as one, in the order of their events' times, with a third word `pcapng` as a file of pcapng, with their
-/// dates; `--help` prints the commands, each with what it is for, `--version` the number of the version.
+/// dates, and with how long each was after the event that a fourth word names, or without one after the first event of
+/// all; `--help` prints the commands, each with what it is for, `--version` the number of the version.
 ///
 /// `Usage` comes where the words are of no form, `BadDecl`, `BadProblem`, `BadExec` and `BadCert` where a text is
 /// refused, `UnknownName` where the problem has no event or no clock of a name, `ReadFault` where a named file is not

@@ -1,5 +1,5 @@
 // What the words of a command line ask for.
-ghost use Rattle.std.specs.Prelude.{◌≡◌, [], ◌∷◌, codes, drop};
+ghost use Rattle.std.specs.Prelude.{◌≡◌, [], ◌∷◌, Some, None, codes, drop};
 ghost use Rattle.std.specs.Str.{bytes_eq};
 ghost use Rattle.commands.specs.Asked.{asked_by, asked_few, asked_of, merge_as, seen_request, thin_by, widen_all, widen_clock, widen_link};
 
@@ -85,6 +85,11 @@ pub enum Request<'a> {
     /// `mergecap DECL pcapng`.
     MergeDated {
         decl: &'a str,
+    },
+    /// `mergecap DECL pcapng EVENT`.
+    MergeSince {
+        decl: &'a str,
+        event: &'a str,
     },
     /// `--help`.
     Help,
@@ -173,10 +178,20 @@ fn widen_link<'a>(problem: &'a str, kind: &str, from: &'a str, to: &'a str) -> R
 
 // What `mergecap` asks for with a format.
 fn merge_as<'a>(decl: &'a str, format: &str) -> Request<'a>
-    ensures { seen_request result ≡ merge_as decl.now format.now }
+    ensures { seen_request result ≡ merge_as decl.now format.now None }
 {
     match format {
         "pcapng" => Request::MergeDated { decl },
+        _ => Request::Nothing,
+    }
+}
+
+// What `mergecap` asks for with a format and the name of an event.
+fn merge_since<'a>(decl: &'a str, format: &str, event: &'a str) -> Request<'a>
+    ensures { seen_request result ≡ merge_as decl.now format.now (Some event.now) }
+{
+    match format {
+        "pcapng" => Request::MergeSince { decl, event },
         _ => Request::Nothing,
     }
 }
@@ -233,6 +248,7 @@ fn asked_of_three<'a>(name: &str, first: &'a str, second: &'a str, third: &'a st
             second: third,
         },
         "widen" => widen_clock(first, second, third),
+        "mergecap" => merge_since(first, second, third),
         _ => Request::Nothing,
     }
 }

@@ -1,10 +1,11 @@
 -- All packets of a session, settled and dated.
 use Rattle.std.proofs.Common.{◌≡◌, inl, inr, ◌⊎◌, ℕ, zero, suc, ◌<◌, List, [], ◌∷◌, ◌++◌, length, map, take, drop, get_or, slice_get, Some, All, true, Result, Ok, Err, ℤ, pos, ◌≤ℤ◌, refl, sym, ◌∙◌, ap, subst, arith}
-use Rattle.std.specs.Prelude.{IfOk, IfErr, Contains}
+use Rattle.std.specs.Prelude.{IfOk, IfErr, Contains, Option, None}
 use Rattle.std.specs.List.Sorted.{IsPermutation}
 use Rattle.std.proofs.lemmas.List.Elements.{All-contains, Contains-get_or}
 use Rattle.std.proofs.lemmas.List.Sorted.{Contains-permutation, IsPermutation-sym}
 use Rattle.std.proofs.lemmas.Option.{slice_get_within}
+use Rattle.intervals.specs.declared.ends.Ends.{Ends}
 use Rattle.decl.specs.declared.items.Label.{Label}
 use Rattle.decl.specs.Declaration.{Declaration}
 use Rattle.problem_model.specs.Bounds.{Times}
@@ -18,8 +19,11 @@ use Rattle.merged_blocks.specs.declared.dates.DatedPackets.{DatedPackets}
 use Rattle.merged_blocks.specs.declared.taps.Tap.{Tap}
 use Rattle.merged_blocks.specs.Taps.{AreTapsOf, tap_of}
 use Rattle.merged_blocks.specs.MergedFile.{AreDated, HasManyTaps, IsDateFault}
-use Rattle.merged_blocks.specs.Ready.{AreReady}
+use Rattle.merged_blocks.specs.declared.since.MergedPackets.{MergedPackets}
+use Rattle.merged_blocks.specs.MergedFile.{HaveEnds}
+use Rattle.merged_blocks.specs.Ready.{AreDatedUnder, AreReady}
 use Rattle.traces.specs.Seen.{Seen}
+use Rattle.traces.specs.declared.event_id.EventId.{EventId}
 use Rattle.traces.specs.Traces.{Traces, seen_by, seen_under}
 use Rattle.traces.specs.Messages.{problem_of_seen}
 use Rattle.traces.proofs.Members.{here, there, head_or_tail, none_in}
@@ -34,7 +38,7 @@ use Rattle.merge_script.specs.declared.unmerged.Unmerged.TheVariants as ends
 use Rattle.merge_script.specs.Gathered.{AddsScript}
 use Rattle.merge_script.specs.Merged.{OfAllAdded}
 use Rattle.merge_script.specs.Turns.{AreKeptFor, GathersAll}
-use Rattle.merge_script.specs.Dated.{DatesNot, IsDatedMergeOf, IsUndated, LacksFile, MergesDated, undated}
+use Rattle.merge_script.specs.Dated.{DatesNot, IsCountedMergeOf, IsDatedMergeOf, IsOriginFor, IsUndated, KnowsEvent, LacksFile, MergesDated, undated}
 use Rattle.merge_script.proofs.Merges.{given_back, given_short, kept_events, settles_all}
 
 -- ---- taps of packets at other times
@@ -67,7 +71,7 @@ module _ (seen : List (List Seen)) (times : Times) where
   }
 
 -- ---- labels
-within_labels : (d : Declaration) (labels : List Label) (traces : Traces) (k : ℕ) (own : List Seen) → slice_get (seen_under d labels traces) k ≡ Some own → k < length labels
+pub within_labels : (d : Declaration) (labels : List Label) (traces : Traces) (k : ℕ) (own : List Seen) → slice_get (seen_under d labels traces) k ≡ Some own → k < length labels
 within_labels d [] traces k own at = absurd cc
 within_labels d (l ∷ labels) [] k own at = absurd cc
 within_labels d (l ∷ labels) (t ∷ traces) zero own at = omega arith
@@ -106,14 +110,15 @@ module _ (h : Held) (old lent new : List Stored) (n : ℕ) (so : IsConsistent (p
         subst (λ (p : ℕ). p < length h.declaration.labels) same (place_inside h (all_timed old) x t.0 t.1)
 
   -- why there is no file of them
-  pub given_lacks_file : (shift : ℤ) → AreDatedBy h.declaration (seen_held h.under) shift → (why : Unmerged) → IsUndated (all_timed (take n (new ++ drop (length new) old))) shift why → LacksFile h.declaration (seen_held h.under) (all_timed old) why
-  given_lacks_file shift dates why (e, fault, is) =
-      subst (LacksFile h.declaration (seen_held h.under) (all_timed old)) (sym is) (lacks e (subst (λ (xs : List Stored). IsDateFault (all_timed xs) shift e) back fault))
+  pub given_lacks_file : (shift : ℤ) → AreDatedBy h.declaration (seen_held h.under) shift → (why : Unmerged) → IsUndated (all_timed (take n (new ++ drop (length new) old))) shift why →
+      (name : Option (List ℕ)) → KnowsEvent (problem_of_seen h.declaration (seen_held h.under)) name → LacksFile h.declaration (seen_held h.under) name (all_timed old) why
+  given_lacks_file shift dates why (e, fault, is) name known =
+      subst (LacksFile h.declaration (seen_held h.under) name (all_timed old)) (sym is) (lacks e (subst (λ (xs : List Stored). IsDateFault (all_timed xs) shift e) back fault))
     where
-      lacks : (e : DateError) → IsDateFault (all_timed new) shift e → LacksFile h.declaration (seen_held h.under) (all_timed old) (undated e)
-      lacks errors.Range (inl late) = (so, inl (record { settled = all_timed new; at_times = all_settled; shift = shift; dates = dates; without = late }))
+      lacks : (e : DateError) → IsDateFault (all_timed new) shift e → LacksFile h.declaration (seen_held h.under) name (all_timed old) (undated e)
+      lacks errors.Range (inl late) = (so, known, inl (record { settled = all_timed new; at_times = all_settled; shift = shift; dates = dates; without = late }))
       lacks errors.Range (inr (taps, are, many)) =
-          (so, inr (taps, taps_before (seen_held h.under) all_settled.times (all_timed old) taps (subst (λ (ts : List Timed). AreTapsOf ts taps) all_settled.are are), many))
+          (so, known, inr (taps, taps_before (seen_held h.under) all_settled.times (all_timed old) taps (subst (λ (ts : List Timed). AreTapsOf ts taps) all_settled.are are), many))
       lacks errors.Memory none = tt
 
   -- what was answered of them
@@ -127,7 +132,7 @@ module _ (h : Held) (old lent new : List Stored) (n : ℕ) (so : IsConsistent (p
     dated_all dates (Err e) arranged begins dated = tt
 
     pub ready_all : AreKeptFor h (all_timed old) → pos 0 ≤ℤ start.time → {E : Type 0} (r : Result DatedPackets E) → IfOk r (λ x. IsArranged (all_timed (take n (new ++ drop (length new) old))) (all_timed x.packets.items)) → IfOk r (λ x. x.start ≡ start)
-        → IfOk r (λ x. AreDated (all_timed x.packets.items) x.taps.items (shift_of start)) → IfOk r (AreReady h.declaration)
+        → IfOk r (λ x. AreDated (all_timed x.packets.items) x.taps.items (shift_of start)) → IfOk r (AreDatedUnder h.declaration)
     ready_all x zero_first (Ok y) arranged begins dated = record {
       dated = subst (λ (s : Start). AreDated (all_timed y.packets.items) y.taps.items (shift_of s)) (sym begins) dated;
       short = given_short h old lent new n so lent_is count settles x (all_timed y.packets.items) arranged;
@@ -146,29 +151,31 @@ module _ (d : Declaration) (old new : Devices) (h : Held) (kept : List Timed) (a
       of_script old.input.left (AddsScript d old new s) (OfAllAdded d old new Says)
       (λ script adds. record { state = s; adds = adds; all = kept; are = all.are.all; says = subst (λ (seen : List (List Seen)). Says seen kept) same says }) all.adds
 
-  pub merges_dated : (ordered : List Timed) (taps : List Tap) (shift : ℤ) → IsDatedMergeOf h.declaration (seen_held h.under) kept ordered taps shift → MergesDated d old new ordered taps shift
-  merges_dated ordered taps shift is =
-      of_all (λ seen ts. IsDatedMergeOf d seen ts ordered taps shift) (subst (λ (x : Declaration). IsDatedMergeOf x (seen_held h.under) kept ordered taps shift) all.declared is)
+  pub merges_dated : (name : Option (List ℕ)) (ordered : List Timed) (taps : List Tap) (shift : ℤ) (since : EventId) (each : List Ends) → IsCountedMergeOf h.declaration (seen_held h.under) name kept ordered taps shift since each →
+      MergesDated d name old new ordered taps shift since each
+  merges_dated name ordered taps shift since each is =
+      of_all (λ seen ts. IsCountedMergeOf d seen name ts ordered taps shift since each) (subst (λ (x : Declaration). IsCountedMergeOf x (seen_held h.under) name kept ordered taps shift since each) all.declared is)
 
-  lacks_all : (why : Unmerged) → LacksFile d (seen_held h.under) kept why → DatesNot d old new why
-  lacks_all (ends.Refused said) lacks = absurd lacks
-  lacks_all ends.Size lacks = absurd lacks
-  lacks_all ends.Inconsistent lacks = of_all (λ seen ts. LacksFile d seen ts ends.Inconsistent) lacks
-  lacks_all ends.Links lacks = absurd lacks
-  lacks_all ends.Range lacks = of_all (λ seen ts. LacksFile d seen ts ends.Range) lacks
-  lacks_all ends.ReadFault lacks = absurd lacks
-  lacks_all ends.Limit lacks = absurd lacks
-  lacks_all ends.Memory lacks = tt
+  lacks_all : (name : Option (List ℕ)) (why : Unmerged) → LacksFile d (seen_held h.under) name kept why → DatesNot d name old new why
+  lacks_all name (ends.Refused said) lacks = inr (of_all (λ seen ts. LacksFile d seen name ts (ends.Refused said)) lacks)
+  lacks_all name ends.Size lacks = absurd lacks
+  lacks_all name ends.Inconsistent lacks = of_all (λ seen ts. LacksFile d seen name ts ends.Inconsistent) lacks
+  lacks_all name ends.Links lacks = absurd lacks
+  lacks_all name ends.Range lacks = of_all (λ seen ts. LacksFile d seen name ts ends.Range) lacks
+  lacks_all name ends.ReadFault lacks = absurd lacks
+  lacks_all name ends.Limit lacks = absurd lacks
+  lacks_all name ends.Memory lacks = tt
 
-  pub dates_not : {A : Type 0} (r : Result A Unmerged) → IfErr r (LacksFile h.declaration (seen_held h.under) kept) → IfErr r (DatesNot d old new)
-  dates_not (Ok a) lacks = tt
-  dates_not (Err why) lacks = lacks_all why (subst (λ (x : Declaration). LacksFile x (seen_held h.under) kept why) all.declared lacks)
+  pub dates_not : (name : Option (List ℕ)) → {A : Type 0} (r : Result A Unmerged) → IfErr r (LacksFile h.declaration (seen_held h.under) name kept) → IfErr r (DatesNot d name old new)
+  dates_not name (Ok a) lacks = tt
+  dates_not name (Err why) lacks = lacks_all name why (subst (λ (x : Declaration). LacksFile x (seen_held h.under) name kept why) all.declared lacks)
 
-  pub ready_by : {E : Type 0} (r : Result DatedPackets E) → IfOk r (AreReady h.declaration) → IfOk r (AreReady d)
+  pub ready_by : {E : Type 0} (r : Result MergedPackets E) → IfOk r (AreReady h.declaration) → IfOk r (AreReady d)
   ready_by (Ok x) ready = subst (λ (declaration : Declaration). AreReady declaration x) all.declared ready
   ready_by (Err e) ready = tt
 
-  pub dated_by : {E : Type 0} (r : Result DatedPackets E) → IfOk r (λ x. IsDatedMergeOf h.declaration (seen_held h.under) kept (all_timed x.packets.items) x.taps.items (shift_of x.start))
-      → IfOk r (λ x. MergesDated d old new (all_timed x.packets.items) x.taps.items (shift_of x.start))
-  dated_by (Ok x) is = merges_dated (all_timed x.packets.items) x.taps.items (shift_of x.start) is
-  dated_by (Err e) is = tt
+  pub dated_by : (name : Option (List ℕ)) → {E : Type 0} (r : Result MergedPackets E)
+      → IfOk r (λ x. IsCountedMergeOf h.declaration (seen_held h.under) name kept (all_timed x.dated.packets.items) x.dated.taps.items (shift_of x.dated.start) x.since.event x.since.ends.items)
+      → IfOk r (λ x. MergesDated d name old new (all_timed x.dated.packets.items) x.dated.taps.items (shift_of x.dated.start) x.since.event x.since.ends.items)
+  dated_by name (Ok x) is = merges_dated name (all_timed x.dated.packets.items) x.dated.taps.items (shift_of x.dated.start) x.since.event x.since.ends.items is
+  dated_by name (Err e) is = tt

@@ -4,3 +4,4 @@ mod Adding
 mod Merges
 mod Noted
 mod DatedMerges
+mod Counted

@@ -1,6 +1,8 @@
 -- Two packets of two labels, worked out.
 use Rattle.std.proofs.Common.{◌≡◌, inl, ℕ, zero, suc, pos, negsuc, List, [], ◌∷◌, None, Some, false, codes, Contains, AllPairs, refl, arith}
 use Rattle.packets.specs.Packets.{Seen}
+use Rattle.intervals.specs.declared.ends.End.TheVariants.{At, Unbounded}
+use Rattle.intervals.specs.declared.ends.Ends.{Ends}
 use Rattle.decl.specs.declared.items.Label.{Label}
 use Rattle.decl.specs.declared.items.TraceKind.TheVariants.{Capture}
 use Rattle.decl.specs.Declaration.{Declaration}
@@ -50,8 +52,12 @@ worked-taps = record { each = each; every = every; sorted = sorted }
 worked-number : number_of taps (tap_of late) ≡ 1
 worked-number = refl
 
--- dates are 100 ns more than times: the packet is at 109 ns, rounded down
-worked-packet : dated_packet worked_declaration taps (pos 100000000000) late ≡ record { interface = 1; stamp = 109; original = 60; bytes = 8 ∷ 9 ∷ []; comment = codes "tracesync b#1 stamp 7" }
+abbrev since_first : Ends
+since_first = record { least = At (negsuc 2499999999); greatest = Unbounded }
+
+-- dates are 100 ns more than times: the packet is at 109 ns, rounded down; in no execution it was more than 2.5 ns before the first one
+worked-packet : dated_packet worked_declaration taps (pos 100000000000) (record { label = 0; number = 1 }) late since_first
+    ≡ record { interface = 1; stamp = 109; original = 60; bytes = 8 ∷ 9 ∷ []; comment = codes "tracesync b#1 stamp 7 since a#1 -2.500000000 to +inf ns" }
 worked-packet = refl
 
 -- and 1 ns less than times the first packet has no date

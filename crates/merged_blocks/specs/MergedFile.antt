@@ -1,6 +1,9 @@
 -- Merged packets as one file of pcapng, each with its date: its time, and so much more as the dates are behind the times.
-use Rattle.std.specs.Prelude.{ℕ, ◌*◌, ◌^◌, ◌<◌, ◌≤◌, ◌⊎◌, List, [], length, map, All, Any, ℤ, pos, ◌+ℤ◌, ◌≤ℤ◌, ◌<ℤ◌}
+use Rattle.std.specs.Prelude.{◌≡◌, ℕ, ◌*◌, ◌^◌, ◌<◌, ◌≤◌, ◌⊎◌, List, [], ◌∷◌, length, map, All, Any, ℤ, pos, ◌+ℤ◌, ◌≤ℤ◌, ◌<ℤ◌}
+use Rattle.intervals.specs.declared.ends.Ends.{Ends}
+use Rattle.intervals.specs.Ends.{FitsEnds}
 use Rattle.decl.specs.Declaration.{Declaration}
+use Rattle.traces.specs.declared.event_id.EventId.{EventId}
 use Rattle.mergecap.specs.MergedCapture.{Timed, whole_nanos}
 use Rattle.pcapng_blocks.specs.Bytes.{SaidPacket}
 use Rattle.pcapng_blocks.specs.File.{Said}
@@ -32,18 +35,24 @@ HasNoStamp shift t = (date_of shift t <ℤ pos 0) ⊎ (date_limit ≤ℤ date_of
 -- ---- the file
 -- a packet under the interface of its tap, with its date as its stamp, rounded down to whole ns, with both its lengths, and
 -- with what is said of it
-abbrev pub dated_packet : Declaration → List Tap → ℤ → Timed → SaidPacket
-dated_packet d taps shift t = record {
+abbrev pub dated_packet : Declaration → List Tap → ℤ → EventId → Timed → Ends → SaidPacket
+dated_packet d taps shift since t ends = record {
   interface = number_of taps (tap_of t);
   stamp = whole_nanos (date_of shift t);
   original = t.packet.original_length;
   bytes = t.packet.bytes;
-  comment = remark_of d t;
+  comment = remark_of d since t ends;
 }
 
+-- each packet with its own ends since one event
+abbrev pub dated_packets : Declaration → List Tap → ℤ → EventId → List Timed → List Ends → List SaidPacket
+dated_packets d taps shift since [] all = []
+dated_packets d taps shift since (t ∷ ts) [] = []
+dated_packets d taps shift since (t ∷ ts) (ends ∷ all) = dated_packet d taps shift since t ends ∷ dated_packets d taps shift since ts all
+
 -- one section, an interface for each tap, and the packets in their order
-abbrev pub merged_file : Declaration → List Tap → ℤ → List Timed → Said
-merged_file d taps shift ts = record { comment = []; interfaces = map (tap_interface d) taps; packets = map (dated_packet d taps shift) ts }
+abbrev pub merged_file : Declaration → List Tap → ℤ → EventId → List Timed → List Ends → Said
+merged_file d taps shift since ts all = record { comment = []; interfaces = map (tap_interface d) taps; packets = dated_packets d taps shift since ts all }
 
 -- ---- packets that have a file
 -- the link type of a packet has 16 bits, its original length and its number 32, and its stamp 62
@@ -68,6 +77,12 @@ pub record AreDated (ts : List Timed) (taps : List Tap) (shift : ℤ) : Type 0 w
   pub each : All (IsDated shift) ts
   pub are_taps : AreTapsOf ts taps
   pub few : length taps ≤ most_taps
+
+-- packets have so many ends since one event, which can be written, and so can its number
+pub record HaveEnds (since : EventId) (ts : List Timed) (all : List Ends) : Type 0 where
+  pub each : length all ≡ length ts
+  pub small : All FitsEnds all
+  pub number : since.number < 2 ^ 32
 
 -- packets have more taps than a reader takes
 abbrev pub HasManyTaps : List Timed → Type 0

@@ -3,7 +3,9 @@ use Rattle.std.specs.Prelude.{◌≡◌, ◌<◌, ◌^◌, ◌+◌, List, [], le
 use Rattle.packets.specs.Packets.{Seen}
 use Rattle.pcapng_stream.specs.Blocks.{Block, interface_number}
 use Rattle.pcapng_stream.specs.Pcapng.{Blocks, Reads, packets_of, present}
+use Rattle.intervals.specs.declared.ends.Ends.{Ends}
 use Rattle.decl.specs.Declaration.{Declaration}
+use Rattle.traces.specs.declared.event_id.EventId.{EventId}
 use Rattle.mergecap.specs.MergedCapture.{Timed, whole_nanos}
 use Rattle.pcapng_blocks.specs.File.{file_bytes}
 use Rattle.pcapng_blocks.specs.Reading.{seen_interface}
@@ -22,9 +24,9 @@ AreEarly shift ts = All (λ (t : Timed). whole_nanos (date_of shift t) < 2 ^ 62)
 
 -- the file is read as these packets with their dates, each once, in their order, each in a block under the interface of its tap, and
 -- nothing is left
-pub record IsReadBack (d : Declaration) (taps : List Tap) (shift : ℤ) (ts : List Timed) : Type 0 where
+pub record IsReadBack (d : Declaration) (taps : List Tap) (shift : ℤ) (since : EventId) (ts : List Timed) (all : List Ends) : Type 0 where
   pub capture : Blocks
-  pub reads : Reads (file_bytes (merged_file d taps shift ts)) capture
+  pub reads : Reads (file_bytes (merged_file d taps shift since ts all)) capture
   pub no_rest : capture.rest ≡ []
   pub interfaces : (present capture).interfaces ≡ map (λ (tap : Tap). seen_interface (tap_interface d tap)) taps
   pub packets : packets_of capture ≡ map (dated taps shift) ts

@@ -2,6 +2,7 @@
 ghost use Rattle.std.specs.Prelude.{◌≡◌, ◌<◌, ◌≤◌, ◌≤ℤ◌, Some, pos, length, slice_get, map, All, AllPairs, Contains};
 ghost use Rattle.std.specs.List.{flat_map};
 ghost use Rattle.ports.specs.Content.{Writes};
+ghost use Rattle.intervals.specs.declared.ends.Ends.{Ends};
 ghost use Rattle.decl.specs.Declaration.{IsDeclaration, declaration_of};
 ghost use Rattle.mergecap.specs.MergedCapture.{IsShort, Timed};
 ghost use Rattle.mergecap.specs.Packets.{timed, all_timed, shift_of};
@@ -10,21 +11,22 @@ ghost use Rattle.pcapng_blocks.specs.File.{IsWritten, file_bytes};
 ghost use Rattle.merged_blocks.specs.declared.taps.Tap.{Tap};
 ghost use Rattle.merged_blocks.specs.Taps.{StandsBefore, number_of, tap_of};
 ghost use Rattle.merged_blocks.specs.Descriptions.{interface_by, tap_interface};
-ghost use Rattle.merged_blocks.specs.MergedFile.{AreDated, IsDated, dated_packet, merged_file, most_taps};
-ghost use Rattle.merged_blocks.specs.Reading.{AreEarly, IsReadBack};
-ghost use Rattle.merged_blocks.specs.Ready.{AreReady};
+ghost use Rattle.merged_blocks.specs.MergedFile.{AreDated, IsDated, dated_packet, dated_packets, most_taps};
+ghost use Rattle.merged_blocks.specs.Ready.{AreReady, IsFileReadBack, file_of};
 
-use crate::DatedPackets;
+use crate::MergedPackets;
 use crate::dates::stamp_of;
 use crate::descriptions::{clock_as, clock_line};
 use crate::laws::files_are_read_back;
 use crate::remarks::remark_line;
 use crate::taps::{Tap, number_of, tap_of};
 use decl::{Decl, Label};
+use intervals::Ends;
 use mergecap::{Start, Stored};
 use pcapng_blocks::{InterfaceText, PacketText, write_interface, write_packet, write_section};
 use ports::{Failed, Sink};
 use problem_model::{Clock, Name};
+use traces::EventId;
 
 // The host at a place.
 fn host_at(hosts: &[Name], k: u32) -> &Name
@@ -107,12 +109,36 @@ fn interface_of(taps: &[Tap], stored: &Stored) -> u32
     number_of(taps, tap_of(stored)) as u32
 }
 
+// The ends at a place.
+fn ends_at(all: &[Ends], k: usize) -> &Ends
+    requires { k < length all.now }
+    ensures { slice_get all.now k ≡ Some result.now }
+{
+    &all[k]
+}
+
+// The packet at a place.
+fn stored_at(kept: &[Stored], k: usize) -> &Stored
+    requires { k < length kept.now }
+    ensures { slice_get kept.now k ≡ Some result.now }
+{
+    &kept[k]
+}
+
+// Where dates begin, and the event that packets are told to be so long after.
+#[derive(Clone, Copy)]
+struct Begin {
+    start: Start,
+    since: EventId,
+}
+
 // Writes a packet under the interface of its tap, with its date as its stamp.
 fn write_dated<O: Sink>(
     decl: &Decl,
     taps: &[Tap],
-    start: Start,
+    begin: Begin,
     stored: &Stored,
+    ends: &Ends,
     out: &mut O,
 ) -> Result<(), Failed>
     requires sorted { AllPairs StandsBefore taps.now }
@@ -120,16 +146,17 @@ fn write_dated<O: Sink>(
     requires few { length taps.now ≤ most_taps }
     requires declared { IsDeclaration (declaration_of decl.now) }
     requires label { stored.now.place < length decl.now.labels.items }
-    requires time { pos 0 ≤ℤ start.time }
-    requires dated { IsDated (shift_of start) (timed stored.now) }
+    requires since { begin.since.label < length decl.now.labels.items }
+    requires time { pos 0 ≤ℤ begin.start.time }
+    requires dated { IsDated (shift_of begin.start) (timed stored.now) }
     requires short { IsShort (timed stored.now) }
-    ensures { Writes (packet_bytes (dated_packet (declaration_of decl.now) taps.now (shift_of start) (timed stored.now))) (O.told out.old) (O.told out.new) result }
+    ensures { Writes (packet_bytes (dated_packet (declaration_of decl.now) taps.now (shift_of begin.start) begin.since (timed stored.now) ends.now)) (O.told out.old) (O.told out.new) result }
 {
-    let stamp = match stamp_of(stored, start) {
+    let stamp = match stamp_of(stored, begin.start) {
         Some(stamp) => stamp,
         None => unreachable!(),
     };
-    let remark = remark_line(decl, stored);
+    let remark = remark_line(decl, begin.since, stored, ends);
     let packet = PacketText {
         interface: interface_of(taps, stored),
         stamp,
@@ -144,19 +171,23 @@ fn write_dated<O: Sink>(
 fn write_packets<O: Sink>(
     decl: &Decl,
     taps: &[Tap],
-    start: Start,
+    begin: Begin,
     kept: &[Stored],
+    all: &[Ends],
     out: &mut O,
 ) -> Result<(), Failed>
     requires declared { IsDeclaration (declaration_of decl.now) }
     requires labels { All (λ (tap : Tap). tap.place < length decl.now.labels.items) taps.now }
-    requires time { pos 0 ≤ℤ start.time }
-    requires dated { AreDated (all_timed kept.now) taps.now (shift_of start) }
+    requires time { pos 0 ≤ℤ begin.start.time }
+    requires dated { AreDated (all_timed kept.now) taps.now (shift_of begin.start) }
     requires short { All IsShort (all_timed kept.now) }
-    ensures { Writes (flat_map packet_bytes (map (dated_packet (declaration_of decl.now) taps.now (shift_of start)) (all_timed kept.now))) (O.told out.old) (O.told out.new) result }
+    requires ends { length all.now ≡ length kept.now }
+    requires since { All (λ (e : Ends). begin.since.label < length decl.now.labels.items) all.now }
+    ensures { Writes (flat_map packet_bytes (dated_packets (declaration_of decl.now) taps.now (shift_of begin.start) begin.since (all_timed kept.now) all.now)) (O.told out.old) (O.told out.new) result }
 {
-    for stored in kept {
-        write_dated(decl, taps, start, stored, out)?;
+    for place in 0..kept.len() {
+        let ends = ends_at(all, place);
+        write_dated(decl, taps, begin, stored_at(kept, place), ends, out)?;
     }
     Ok(())
 }
@@ -168,22 +199,36 @@ fn write_packets<O: Sink>(
 /// its clock, and by how much that clock's rate may be off, in parts per billion, and the stamps of its trace, in ns: by
 /// the label's own bounds, and by those of the clock where it gives none. Its stamps count ns (if_tsresol 9), and it has
 /// no limit on how much of a packet is captured. A packet's stamp is its date, rounded down to whole ns; it has both its
-/// lengths, and a comment (opt_comment): `tracesync`, its event, `stamp`, and its stamp in ns of its own clock.
+/// lengths, and a comment (opt_comment): `tracesync`, its event, `stamp`, and its stamp in ns of its own clock; `since`,
+/// the one event, and the least and the greatest real time from that to it with `to` between them, in ns, with `-inf`
+/// and `+inf` where there is no end, and `ns`.
 ///
-/// The declaration is that of the labels, each packet has at most 262,144 bytes and a date, and the time of the first
-/// event is not below 0. It takes no memory. Where all dates are below 2^62 ns, the whole of it is read as these packets
-/// with these stamps, in their order, and nothing is left. `Failed` comes only where the sink's count of faults rose, or
-/// stands at its last value; a front of the file is then written.
-pub fn write_merged<O: Sink>(decl: &Decl, dated: &DatedPackets, out: &mut O) -> Result<(), Failed>
+/// The declaration is that of the labels, each packet has at most 262,144 bytes, a date and ends, the one event is under
+/// a label, and the time of the first event is not below 0. It takes no memory. Where all dates are below 2^62 ns, the
+/// whole of it is read as these packets with these stamps, in their order, and nothing is left. `Failed` comes only where
+/// the sink's count of faults rose, or stands at its last value; a front of the file is then written.
+pub fn write_merged<O: Sink>(decl: &Decl, merged: &MergedPackets, out: &mut O) -> Result<(), Failed>
     requires declared { IsDeclaration (declaration_of decl.now) }
-    requires ready { AreReady (declaration_of decl.now) dated.now }
-    ensures writes { Writes (file_bytes (merged_file (declaration_of decl.now) dated.now.taps.items (shift_of dated.now.start) (all_timed dated.now.packets.items))) (O.told out.old) (O.told out.new) result }
-    ensures written { IsWritten (merged_file (declaration_of decl.now) dated.now.taps.items (shift_of dated.now.start) (all_timed dated.now.packets.items)) }
-    ensures read_back { AreEarly (shift_of dated.now.start) (all_timed dated.now.packets.items) → IsReadBack (declaration_of decl.now) dated.now.taps.items (shift_of dated.now.start) (all_timed dated.now.packets.items) }
+    requires ready { AreReady (declaration_of decl.now) merged.now }
+    ensures writes { Writes (file_bytes (file_of (declaration_of decl.now) merged.now)) (O.told out.old) (O.told out.new) result }
+    ensures written { IsWritten (file_of (declaration_of decl.now) merged.now) }
+    ensures read_back { IsFileReadBack (declaration_of decl.now) merged.now }
 {
     // It tells that such a file can be written, and what it is read as.
     files_are_read_back();
+    let dated = &merged.dated;
+    let begin = Begin {
+        start: dated.start,
+        since: merged.since.event,
+    };
     write_section(b"", out)?;
     write_taps(decl, &dated.taps, out)?;
-    write_packets(decl, &dated.taps, dated.start, &dated.packets, out)
+    write_packets(
+        decl,
+        &dated.taps,
+        begin,
+        &dated.packets,
+        &merged.since.ends,
+        out,
+    )
 }

@@ -1,10 +1,9 @@
-use Rattle.std.proofs.Common.{inl, inr, refl, subst, sym}
+use Rattle.std.proofs.Common.{ℕ, List, inl, inr, refl, subst, sym}
+use Rattle.std.specs.Prelude.{option_map}
+use Rattle.std.specs.Borrow.{Bor}
 use Rattle.decl.specs.Declaration.{Declaration, IsDeclaration}
-use Rattle.mergecap.specs.Packets.{all_timed, shift_of}
 use Rattle.pcapng_blocks.specs.File.{IsWritten, file_bytes}
-use Rattle.merged_blocks.specs.MergedFile.{merged_file}
-use Rattle.merged_blocks.specs.Reading.{AreEarly, IsReadBack}
-use Rattle.merged_blocks.specs.Ready.{AreReady}
+use Rattle.merged_blocks.specs.Ready.{AreReady, IsFileReadBack, file_of}
 use Rattle.merge_script.specs.Turns.{reads}
 use Rattle.problem_commands.specs.Printing.{IsOnlyText, Prints}
 use Rattle.problem_commands.specs.declared.status.Status.TheVariants.{Done}
@@ -16,24 +15,21 @@ pub print-requires-clause-declared : goal.print-requires-clause-declared
 print-requires-clause-declared g c = subst IsDeclaration (sym c.in-Ok.ensures.declared) c.requires.declared
 
 pub print-requires-clause-ready : goal.print-requires-clause-ready
-print-requires-clause-ready g c = subst (λ (d : Declaration). AreReady d c.in-Ok.dated) (sym c.in-Ok.ensures.declared) c.in-Ok.ensures.able
+print-requires-clause-ready g c = subst (λ (d : Declaration). AreReady d c.in-Ok.merged) (sym c.in-Ok.ensures.declared) c.in-Ok.ensures.able
 
 pub returns-in-Ok-clause-dated : goal.returns-in-Ok-clause-dated
 returns-in-Ok-clause-dated g c =
-    let x = c.in-Ok.dated in
-    let shift = shift_of x.start in
-    let ordered = all_timed x.packets.items in
+    let x = c.in-Ok.merged in
     let same = c.in-Ok.ensures.declared in
-    file_printed c.args.session.now.declaration (reads (g.F.Files.told c.args.files.now) (g.I.Source.told c.args.input.now)) (reads (g.F.Files.told c.date_script.new.files) (g.I.Source.told c.date_script.new.input))
-    (g.O.Sink.told c.args.out.now) (g.O.Sink.told c.print.new.out) c.print.result x c.in-Ok.ensures.ok
-    (subst (λ (d : Declaration). IsWritten (merged_file d x.taps.items shift ordered)) same c.print.ensures.written)
-    (subst (λ (d : Declaration). AreEarly shift ordered → IsReadBack d x.taps.items shift ordered) same c.print.ensures.read_back)
-    (subst (λ (d : Declaration). Prints (IsOnlyText (file_bytes (merged_file d x.taps.items shift ordered)) Done) (g.O.Sink.told c.args.out.now) (g.O.Sink.told c.print.new.out) c.print.result) same c.print.ensures.prints)
+    file_printed c.args.session.now.declaration (option_map (λ (event : Bor (List ℕ)). event.now) c.args.since) (reads (g.F.Files.told c.args.files.now) (g.I.Source.told c.args.input.now))
+    (reads (g.F.Files.told c.date_script.new.files) (g.I.Source.told c.date_script.new.input)) (g.O.Sink.told c.args.out.now) (g.O.Sink.told c.print.new.out) c.print.result x c.in-Ok.ensures.ok
+    (subst (λ (d : Declaration). IsWritten (file_of d x)) same c.print.ensures.written) (subst (λ (d : Declaration). IsFileReadBack d x) same c.print.ensures.read_back)
+    (subst (λ (d : Declaration). Prints (IsOnlyText (file_bytes (file_of d x)) Done) (g.O.Sink.told c.args.out.now) (g.O.Sink.told c.print.new.out) c.print.result) same c.print.ensures.prints)
 
 pub returns-in-Err-clause-dated : goal.returns-in-Err-clause-dated
 returns-in-Err-clause-dated g c =
-    none_printed c.args.session.now.declaration (reads (g.F.Files.told c.args.files.now) (g.I.Source.told c.args.input.now)) (reads (g.F.Files.told c.date_script.new.files) (g.I.Source.told c.date_script.new.input))
-    (g.O.Sink.told c.args.out.now) (g.O.Sink.told c.tell.new.out) c.tell.result c.in-Err.why c.in-Err.ensures.err c.tell.ensures
+    none_printed c.args.session.now.declaration (option_map (λ (event : Bor (List ℕ)). event.now) c.args.since) (reads (g.F.Files.told c.args.files.now) (g.I.Source.told c.args.input.now))
+    (reads (g.F.Files.told c.date_script.new.files) (g.I.Source.told c.date_script.new.input)) (g.O.Sink.told c.args.out.now) (g.O.Sink.told c.tell.new.out) c.tell.result c.in-Err.why c.in-Err.ensures.err c.tell.ensures
 
 pub returns-in-Ok-clause-noted : goal.returns-in-Ok-clause-noted
 returns-in-Ok-clause-noted g c = inl (c.print.ensures.only, c.in-Ok.ensures.noted)

@@ -17,3 +17,6 @@ returns-in-WidenClock-clause-answers g c = rw c.in-WidenClock.is c.widen-in-Wide
 
 pub returns-in-Thin-clause-answers : goal.returns-in-Thin-clause-answers
 returns-in-Thin-clause-answers g c = rw c.in-Thin.is c.thin.ensures.thinned
+
+pub returns-in-MergeSince-clause-answers : goal.returns-in-MergeSince-clause-answers
+returns-in-MergeSince-clause-answers g c = rw c.in-MergeSince.is c.mergecap_since.ensures.dated

@@ -1,50 +1,28 @@
-use Rattle.std.proofs.Common.{◌≡◌, List, length, take, drop, ◌++◌, All, Bool, Result, Ok, Err, IfOk, IfErr, pos, ◌≤ℤ◌, sym, subst, rules}
-use Rattle.mergecap.specs.declared.start.Start.{Start}
-use Rattle.mergecap.specs.declared.stored.Stored.{Stored}
-use Rattle.mergecap.specs.MergedCapture.{IsArranged, IsShort}
+use Rattle.std.proofs.Common.{Bool, List, Option, ℕ, true, subst}
+use Rattle.std.specs.Prelude.{option_map}
+use Rattle.std.specs.Borrow.{Bor}
+use Rattle.std.proofs.lemmas.Result.{IfOk-weaker}
 use Rattle.mergecap.specs.Packets.{all_timed, shift_of}
-use Rattle.merged_blocks.specs.declared.dates.DatedPackets.{DatedPackets}
-use Rattle.merged_blocks.specs.MergedFile.{AreDated}
 use Rattle.queries.specs.Consistent.{IsConsistent}
-use Rattle.session.specs.Settled.{HasEventOf}
 use Rattle.session.specs.Stands.{problem_held, seen_held}
-use Rattle.merge_script.specs.Dated.{IsUndated, LacksFile}
-use Rattle.merge_script.proofs.DatedMerges.{dated_all, given_lacks_file, ready_all}
-use Rattle.merge_script.proofs.Merges.{kept_events, if_err, given_apart}
+use Rattle.merge_script.specs.Dated.{IsCountedMergeOf, IsOriginFor, LacksFile}
+use Rattle.merge_script.proofs.Merges.{if_err}
 use Rattle.merge_script.proofs.dated.merge_dated.Goals as goal
 
-pub settle-requires-clause-there : goal.settle-requires-clause-there
-settle-requires-clause-there c =
-    subst (λ (xs : List Stored). All (HasEventOf (seen_held c.args.session.now.under)) (all_timed xs)) (sym c.deref_mut.ensures.value) (kept_events c.args.session.now (all_timed c.args.kept.items) c.requires.all)
+pub origin-requires-clause-consistent : goal.origin-requires-clause-consistent
+origin-requires-clause-consistent g c = subst (λ (b : Bool). IsConsistent (problem_held c.args.session.now) b) c.if-not-consistent.false c.consistent.ensures
 
-pub start-requires-clause-consistent : goal.start-requires-clause-consistent
-start-requires-clause-consistent c = subst (λ (b : Bool). IsConsistent (problem_held c.args.session.now) b) c.if-not-consistent.false c.consistent.ensures
+pub merge_since-requires-clause-consistent : goal.merge_since-requires-clause-consistent
+merge_since-requires-clause-consistent g c = subst (λ (b : Bool). IsConsistent (problem_held c.args.session.now) b) c.if-not-consistent.false c.consistent.ensures
 
-pub dated-requires-clause-differ : goal.dated-requires-clause-differ
-dated-requires-clause-differ c =
-    let count : c.args.kept.len ≡ length c.args.kept.items = search rules in
-    let so = subst (λ (b : Bool). IsConsistent (problem_held c.args.session.now) b) c.if-not-consistent.false c.consistent.ensures in
-    given_apart c.args.session.now c.args.kept.items c.deref_mut.result.now c.settle.new.kept c.args.kept.len so c.deref_mut.ensures.value count c.settle.ensures.settled c.requires.all
+pub merge_since-requires-clause-origin : goal.merge_since-requires-clause-origin
+merge_since-requires-clause-origin g c = ((option_map (λ (event : Bor (List ℕ)). event.now) c.args.name), c.in-Ok.ensures.ok)
 
-pub returns-clause-ok : goal.returns-clause-ok
-returns-clause-ok c =
-    let count : c.args.kept.len ≡ length c.args.kept.items = search rules in
-    let so = subst (λ (b : Bool). IsConsistent (problem_held c.args.session.now) b) c.if-not-consistent.false c.consistent.ensures in
-    dated_all c.args.session.now c.args.kept.items c.deref_mut.result.now c.settle.new.kept c.args.kept.len so c.deref_mut.ensures.value count c.settle.ensures.settled
-    c.start.result c.start.ensures.dated c.dated.result c.dated.ensures.arranged c.dated.ensures.start c.dated.ensures.dated
+pub returns-in-Ok-clause-ok : goal.returns-in-Ok-clause-ok
+returns-in-Ok-clause-ok g c = IfOk-weaker c.merge_since.result _ _ (λ x told. told (option_map (λ (event : Bor (List ℕ)). event.now) c.args.name) c.in-Ok.ensures.ok) c.merge_since.ensures.ok
 
-pub returns-clause-able : goal.returns-clause-able
-returns-clause-able c =
-    let count : c.args.kept.len ≡ length c.args.kept.items = search rules in
-    let so = subst (λ (b : Bool). IsConsistent (problem_held c.args.session.now) b) c.if-not-consistent.false c.consistent.ensures in
-    ready_all c.args.session.now c.args.kept.items c.deref_mut.result.now c.settle.new.kept c.args.kept.len so c.deref_mut.ensures.value count c.settle.ensures.settled
-    c.start.result c.requires.all c.start.ensures.from_zero c.dated.result c.dated.ensures.arranged c.dated.ensures.start c.dated.ensures.dated
+pub returns-in-Ok-clause-err : goal.returns-in-Ok-clause-err
+returns-in-Ok-clause-err g c = if_err c.merge_since.result _ _ (λ why told. told (option_map (λ (event : Bor (List ℕ)). event.now) c.args.name) c.in-Ok.ensures.ok) c.merge_since.ensures.err
 
-pub returns-clause-err : goal.returns-clause-err
-returns-clause-err c =
-    let count : c.args.kept.len ≡ length c.args.kept.items = search rules in
-    let so = subst (λ (b : Bool). IsConsistent (problem_held c.args.session.now) b) c.if-not-consistent.false c.consistent.ensures in
-    let lent = take c.args.kept.len (c.settle.new.kept ++ drop (length c.settle.new.kept) c.args.kept.items) in
-    if_err c.dated.result (IsUndated (all_timed lent) (shift_of c.start.result)) (LacksFile c.args.session.now.declaration (seen_held c.args.session.now.under) (all_timed c.args.kept.items))
-    (given_lacks_file c.args.session.now c.args.kept.items c.deref_mut.result.now c.settle.new.kept c.args.kept.len so c.deref_mut.ensures.value count c.settle.ensures.settled (shift_of c.start.result) c.start.ensures.dated)
-    c.dated.ensures.err
+pub returns-in-Err-clause-err : goal.returns-in-Err-clause-err
+returns-in-Err-clause-err g c = c.in-Err.ensures.err (all_timed c.args.kept.items)
