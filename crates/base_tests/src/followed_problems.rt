@@ -26,7 +26,7 @@ pub(crate) fn fault_of(alloc: Global, text: &[u8]) -> Option<ProblemError> {
 // The texts of version 2 whose form is wrong, each with its first faulty line: no follow before the end, before an event
 // or before a message; a clock behind a follow; a follow behind an event or behind a message; a gap with a zero in front,
 // with a sign, left out, twice, or with a space behind it; an event's name for a clock's; a follow in version 1.
-const MISPLACED: [(&str, u32); 16] = [
+const MISPLACED: [(&str, u64); 16] = [
     ("problem 2\n", 2),
     ("problem 2\nend\n", 2),
     ("problem 2\nclock c 0 0 0 0\nclock d 0 0 0 0\nend\n", 4),
@@ -88,7 +88,7 @@ const MISPLACED: [(&str, u32); 16] = [
 // The texts whose follow has a name that may not stand there, each with its line: a follow before its clocks, or before
 // one of them; an unknown clock; one clock twice; the later clock first, also with a gap that is out of its range; the
 // same earlier clock twice, the same later clock twice, and both.
-const MISNAMED: [(&str, u32); 10] = [
+const MISNAMED: [(&str, u64); 10] = [
     (
         "problem 2\nfollow c d 5\nclock c 0 0 0 0\nclock d 0 0 0 0\nend\n",
         2,
@@ -132,7 +132,7 @@ const MISNAMED: [(&str, u32); 10] = [
 ];
 
 // The texts whose gap is out of its range, each with its line: 2^62, and 2^64.
-const OUT_OF_RANGE: [(&str, u32); 2] = [
+const OUT_OF_RANGE: [(&str, u64); 2] = [
     (
         "problem 2\nclock c 0 0 0 0\nclock d 0 0 0 0\nfollow c d 4611686018427387904\nevent p c 10\nevent q d 3\nend\n",
         4,

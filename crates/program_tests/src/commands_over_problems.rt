@@ -1,5 +1,5 @@
 use crate::fixtures::{TWO_LOGS_RUN, USAGE};
-use crate::runs::{Wanted, prints};
+use crate::runs::{Wanted, prints, rows_right};
 use atto::{NsText, write_decimal};
 use ports::MemFiles;
 use problem_commands::Status;
@@ -549,36 +549,19 @@ const FAILING: [(&[&str], &[u32], Status, &str); 11] = [
     (&["obey", "p"], &[], Status::Usage, USAGE),
 ];
 
-// Whether a run over three files comes to what is wanted.
-fn comes_to(alloc: Global, wanted: &Wanted<'_>, fails: &[u32]) -> Result<bool, AllocError> {
-    let mut files = MemFiles::new(alloc, &[])?;
-    files.put("p", ONE_EVENT.as_bytes())?;
-    files.put("e", OBEYING.as_bytes())?;
-    files.put("x", b"no problem")?;
-    prints(alloc, wanted, &mut files, fails)
-}
-
-// How many rows, from the first on, come out as they say.
-fn rows_failed(
-    alloc: Global,
-    rows: &[(&[&str], &[u32], Status, &str)],
-) -> Result<usize, AllocError> {
-    for (place, (words, fails, status, printed)) in rows.iter().enumerate() {
-        let wanted = Wanted {
-            words: *words,
-            status: *status,
-            printed: *printed,
-        };
-        if !comes_to(alloc, &wanted, fails)? {
-            return Ok(place);
-        }
-    }
-    Ok(rows.len())
+// How many rows, from the first on, come out as they say, over three files.
+fn rows_failed(alloc: Global) -> Result<usize, AllocError> {
+    let files: [(&str, &[u8]); 3] = [
+        ("p", ONE_EVENT.as_bytes()),
+        ("e", OBEYING.as_bytes()),
+        ("x", b"no problem"),
+    ];
+    rows_right(alloc, &files, &FAILING)
 }
 
 #[test]
 fn devices_fail(rt: HostRuntime) -> Result<(), Fail> {
-    let right = rows_failed(rt.alloc(), &FAILING)?;
+    let right = rows_failed(rt.alloc())?;
     assert!(rt; right == FAILING.len(), "at row {right}");
     Ok(())
 }

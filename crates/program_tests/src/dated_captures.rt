@@ -31,14 +31,78 @@ const SAID_OF_A: &[u8; 53] = b"a clock a short 0 ppb long 0 ppb early 0 ns late 
 
 const SAID_OF_B: &[u8; 53] = b"b clock b short 0 ppb long 0 ppb early 0 ns late 0 ns";
 
-// What there is to say of a packet: its event, and the stamp of its own clock.
-const FIRST_OF_A: &[u8; 23] = b"tracesync a#1 stamp 100";
+// What is said of a packet: its comment with the head of that option, zeros behind it up to a multiple of four bytes, and the
+// end of the options; and how many bytes the block of a packet of 28 bytes then has.
+#[derive(Clone, Copy)]
+struct Remark {
+    option: &'static [u8],
+    size: u8,
+}
 
-const SECOND_OF_A: &[u8; 23] = b"tracesync a#2 stamp 180";
+// Its event, the stamp of its own clock, and how long after the first event it was.
+const FIRST_OF_A: Remark = Remark {
+    option: b"\x01\0\x3f\0tracesync a#1 stamp 100 since a#1 0.000000000 to 0.000000000 ns\0\0\0\0\0",
+    size: 132,
+};
 
-const FIRST_OF_B: &[u8; 23] = b"tracesync b#1 stamp 250";
+const SECOND_OF_A: Remark = Remark {
+    option: b"\x01\0\x41\0tracesync a#2 stamp 180 since a#1 80.000000000 to 80.000000000 ns\0\0\0\0\0\0\0",
+    size: 136,
+};
 
-const SECOND_OF_B: &[u8; 23] = b"tracesync b#2 stamp 300";
+const FIRST_OF_B: Remark = Remark {
+    option: b"\x01\0\x41\0tracesync b#1 stamp 250 since a#1 10.000000000 to 20.000000000 ns\0\0\0\0\0\0\0",
+    size: 136,
+};
+
+const SECOND_OF_B: Remark = Remark {
+    option: b"\x01\0\x41\0tracesync b#2 stamp 300 since a#1 60.000000000 to 70.000000000 ns\0\0\0\0\0\0\0",
+    size: 136,
+};
+
+// Where no message bounds anything between the hosts.
+const FIRST_UNBOUND: Remark = Remark {
+    option: b"\x01\0\x31\0tracesync b#1 stamp 250 since a#1 -inf to +inf ns\0\0\0\0\0\0\0",
+    size: 120,
+};
+
+const SECOND_UNBOUND: Remark = Remark {
+    option: b"\x01\0\x31\0tracesync b#2 stamp 300 since a#1 -inf to +inf ns\0\0\0\0\0\0\0",
+    size: 120,
+};
+
+// The same since the first event of the second host.
+const FIRST_OF_A_SINCE_B: Remark = Remark {
+    option: b"\x01\0\x43\0tracesync a#1 stamp 100 since b#1 -20.000000000 to -10.000000000 ns\0\0\0\0\0",
+    size: 136,
+};
+
+const FIRST_OF_B_SINCE_B: Remark = Remark {
+    option: b"\x01\0\x3f\0tracesync b#1 stamp 250 since b#1 0.000000000 to 0.000000000 ns\0\0\0\0\0",
+    size: 132,
+};
+
+const SECOND_OF_B_SINCE_B: Remark = Remark {
+    option: b"\x01\0\x41\0tracesync b#2 stamp 300 since b#1 50.000000000 to 50.000000000 ns\0\0\0\0\0\0\0",
+    size: 136,
+};
+
+const SECOND_OF_A_SINCE_B: Remark = Remark {
+    option: b"\x01\0\x41\0tracesync a#2 stamp 180 since b#1 60.000000000 to 70.000000000 ns\0\0\0\0\0\0\0",
+    size: 136,
+};
+
+// All four, in the order of their times.
+const SINCE_A: [Remark; 4] = [FIRST_OF_A, FIRST_OF_B, SECOND_OF_B, SECOND_OF_A];
+
+const NOT_BOUND: [Remark; 4] = [FIRST_OF_A, FIRST_UNBOUND, SECOND_UNBOUND, SECOND_OF_A];
+
+const SINCE_B: [Remark; 4] = [
+    FIRST_OF_A_SINCE_B,
+    FIRST_OF_B_SINCE_B,
+    SECOND_OF_B_SINCE_B,
+    SECOND_OF_A_SINCE_B,
+];
 
 fn push_section(bytes: &mut Vec<u8>) -> Result<(), AllocError> {
     bytes.extend_from_slice(&[
@@ -87,11 +151,10 @@ fn push_plain_packet(
     bytes.extend_from_slice(&[60, 0, 0, 0])
 }
 
-// What is said of a packet, as its comment, and the end of its block.
-fn push_comment(said: &[u8; 23], bytes: &mut Vec<u8>) -> Result<(), AllocError> {
-    bytes.extend_from_slice(&[1, 0, 23, 0])?;
-    bytes.extend_from_slice(said)?;
-    bytes.extend_from_slice(&[0, 0, 0, 0, 0, 92, 0, 0, 0])
+// What is said of a packet, and the end of its block.
+fn push_comment(said: &Remark, bytes: &mut Vec<u8>) -> Result<(), AllocError> {
+    bytes.extend_from_slice(said.option)?;
+    bytes.extend_from_slice(&[said.size, 0, 0, 0])
 }
 
 // A packet that was captured whole, and what is said of it.
@@ -99,28 +162,37 @@ fn push_packet(
     interface: u8,
     date: [u8; 2],
     packet: &[u8; 28],
-    said: &[u8; 23],
+    said: &Remark,
     bytes: &mut Vec<u8>,
 ) -> Result<(), AllocError> {
-    push_front(92, interface, date, 28, packet, bytes)?;
+    push_front(said.size, interface, date, 28, packet, bytes)?;
     push_comment(said, bytes)
 }
 
-// The four packets at these dates, those of the second host with this link type.
-fn push_file(link: u8, dates: &[[u8; 2]; 4], bytes: &mut Vec<u8>) -> Result<(), AllocError> {
+// The four packets at these dates, those of the second host with this link type, and what is said of them.
+fn push_file(
+    link: u8,
+    dates: &[[u8; 2]; 4],
+    said: &[Remark; 4],
+    bytes: &mut Vec<u8>,
+) -> Result<(), AllocError> {
     let [first, second, third, fourth] = dates;
     push_section(bytes)?;
     push_interface(b'a', 101, SAID_OF_A, bytes)?;
     push_interface(b'b', link, SAID_OF_B, bytes)?;
-    push_packet(0, *first, &THERE, FIRST_OF_A, bytes)?;
-    push_packet(1, *second, &THERE, FIRST_OF_B, bytes)?;
-    push_packet(1, *third, &BACK, SECOND_OF_B, bytes)?;
-    push_packet(0, *fourth, &BACK, SECOND_OF_A, bytes)
+    push_packet(0, *first, &THERE, &said[0], bytes)?;
+    push_packet(1, *second, &THERE, &said[1], bytes)?;
+    push_packet(1, *third, &BACK, &said[2], bytes)?;
+    push_packet(0, *fourth, &BACK, &said[3], bytes)
 }
+
+// The words of a merge into a file of pcapng.
+const MERGE: [&str; 3] = ["mergecap", "decl", "pcapng"];
 
 // Whether a merge over these files ends so.
 fn ends_over(
     alloc: Global,
+    words: &[&str],
     files: &mut MemFiles,
     script: &str,
     status: Status,
@@ -130,10 +202,9 @@ fn ends_over(
         text: script.as_bytes(),
         fails: &[],
     };
-    let mut out = MemSink::new(alloc, 600, 7, &[])?;
+    let mut out = MemSink::new(alloc, 900, 7, &[])?;
     let mut notes = MemSink::new(alloc, 100, 7, &[])?;
-    let words = ["mergecap", "decl", "pcapng"];
-    let found = run_noted(alloc, &words, files, &script, &mut out, &mut notes)?;
+    let found = run_noted(alloc, words, files, &script, &mut out, &mut notes)?;
     Ok(found.code() == status.code() && out.bytes() == printed && notes.bytes().is_empty())
 }
 
@@ -147,7 +218,7 @@ fn ends_so(
     printed: &[u8],
 ) -> Result<bool, AllocError> {
     let mut files = files_of(alloc, decl, captures)?;
-    ends_over(alloc, &mut files, script, status, printed)
+    ends_over(alloc, &MERGE, &mut files, script, status, printed)
 }
 
 // Whether both captures are merged so over this declaration.
@@ -157,9 +228,10 @@ fn merges(
     captures: &Captures,
     link: u8,
     dates: &[[u8; 2]; 4],
+    said: &[Remark; 4],
 ) -> Result<bool, AllocError> {
     let mut file = Vec::new(alloc);
-    push_file(link, dates, &mut file)?;
+    push_file(link, dates, said, &mut file)?;
     ends_so(
         alloc,
         decl,
@@ -179,9 +251,18 @@ const BY_SOURCE: [[u8; 2]; 4] = [[230, 0], [240, 0], [34, 1], [54, 1]];
 #[test]
 fn captures_are_dated(rt: HostRuntime) -> Result<(), Fail> {
     let alloc = rt.alloc();
-    assert!(rt; merges(alloc, TWO_CAPTURES_DECLARATION, &LAWFUL, 101, &BY_STAMP)?);
-    assert!(rt; merges(alloc, WITH_A_SOURCE, &LAWFUL, 101, &BY_SOURCE)?);
-    assert!(rt; merges(alloc, WITH_EXACT_STAMPS, &LAWFUL, 101, &BY_STAMP)?);
+    assert!(rt;
+        merges(
+            alloc,
+            TWO_CAPTURES_DECLARATION,
+            &LAWFUL,
+            101,
+            &BY_STAMP,
+            &SINCE_A
+        )?
+    );
+    assert!(rt; merges(alloc, WITH_A_SOURCE, &LAWFUL, 101, &BY_SOURCE, &SINCE_A)?);
+    assert!(rt; merges(alloc, WITH_EXACT_STAMPS, &LAWFUL, 101, &BY_STAMP, &SINCE_A)?);
     Ok(())
 }
 
@@ -191,7 +272,16 @@ const UNBOUND: [[u8; 2]; 4] = [[100, 0], [100, 0], [150, 0], [180, 0]];
 #[test]
 fn link_types_may_differ(rt: HostRuntime) -> Result<(), Fail> {
     let alloc = rt.alloc();
-    assert!(rt; merges(alloc, TWO_CAPTURES_DECLARATION, &OTHER_LINK, 1, &UNBOUND)?);
+    assert!(rt;
+        merges(
+            alloc,
+            TWO_CAPTURES_DECLARATION,
+            &OTHER_LINK,
+            1,
+            &UNBOUND,
+            &NOT_BOUND
+        )?
+    );
     Ok(())
 }
 
@@ -221,10 +311,10 @@ fn has_both_links(alloc: Global) -> Result<bool, AllocError> {
     push_section(&mut file)?;
     push_interface(b'a', 1, SAID_OF_A, &mut file)?;
     push_interface(b'a', 101, SAID_OF_A, &mut file)?;
-    push_front(92, 1, [100, 0], 40, &THERE, &mut file)?;
-    push_comment(FIRST_OF_A, &mut file)?;
-    push_packet(0, [180, 0], &BACK, SECOND_OF_A, &mut file)?;
-    ends_over(alloc, &mut files, "add a a\n", Status::Done, &file)
+    push_front(FIRST_OF_A.size, 1, [100, 0], 40, &THERE, &mut file)?;
+    push_comment(&FIRST_OF_A, &mut file)?;
+    push_packet(0, [180, 0], &BACK, &SECOND_OF_A, &mut file)?;
+    ends_over(alloc, &MERGE, &mut files, "add a a\n", Status::Done, &file)
 }
 
 #[test]
@@ -248,6 +338,40 @@ fn a_file_without_packets_is_a_section(rt: HostRuntime) -> Result<(), Fail> {
             &file
         )?
     );
+    Ok(())
+}
+
+// Whether a merge of both captures since the event of a name ends so.
+fn ends_since(
+    alloc: Global,
+    event: &str,
+    status: Status,
+    printed: &[u8],
+) -> Result<bool, AllocError> {
+    let mut files = files_of(alloc, TWO_CAPTURES_DECLARATION, &LAWFUL)?;
+    let words = ["mergecap", "decl", "pcapng", event];
+    ends_over(
+        alloc,
+        &words,
+        &mut files,
+        "add b b\nadd a a\n",
+        status,
+        printed,
+    )
+}
+
+// Whether both captures are merged with how long each packet was after the first event of the second host.
+fn merges_since_b(alloc: Global) -> Result<bool, AllocError> {
+    let mut file = Vec::new(alloc);
+    push_file(101, &BY_STAMP, &SINCE_B, &mut file)?;
+    ends_since(alloc, "b#1", Status::Done, &file)
+}
+
+#[test]
+fn an_event_is_named(rt: HostRuntime) -> Result<(), Fail> {
+    let alloc = rt.alloc();
+    assert!(rt; merges_since_b(alloc)?);
+    assert!(rt; ends_since(alloc, "b#3", Status::NoMerge, b"refused 28\n")?);
     Ok(())
 }
 

@@ -88,3 +88,33 @@ pub(crate) fn prints(
     let mut out = MemSink::new(alloc, 600, 7, fails)?;
     answers(alloc, wanted, files, &NO_SCRIPT, &mut out)
 }
+
+// Files with these bytes at these paths.
+fn files_with(alloc: Global, files: &[(&str, &[u8])]) -> Result<MemFiles, AllocError> {
+    let mut found = MemFiles::new(alloc, &[])?;
+    for (path, bytes) in files {
+        found.put(path, bytes)?;
+    }
+    Ok(found)
+}
+
+// How many rows, from the first on, come out as they say over these files: words, the writes that fail, the status, and
+// what is printed.
+pub(crate) fn rows_right(
+    alloc: Global,
+    files: &[(&str, &[u8])],
+    rows: &[(&[&str], &[u32], Status, &str)],
+) -> Result<usize, AllocError> {
+    for (place, (words, fails, status, printed)) in rows.iter().enumerate() {
+        let wanted = Wanted {
+            words: *words,
+            status: *status,
+            printed: *printed,
+        };
+        let mut held = files_with(alloc, files)?;
+        if !prints(alloc, &wanted, &mut held, fails)? {
+            return Ok(place);
+        }
+    }
+    Ok(rows.len())
+}

@@ -4,8 +4,8 @@
 //! `limits` files that have more than a session takes, `questions` what is asked of two events, `several_clocks` what is
 //! replied of hosts with several clocks, `keeps` events that are kept, `wide_captures` packets of IPv6, `passed_packets`
 //! packets that are passed over, `windows` messages that go by when their ends happened, `segments` messages of several
-//! segments, `stamp_bounds` traces whose labels give bounds of their own stamps (`session`); `scripts` has whole scripts
-//! (`session`); `fixtures` what several of them use.
+//! segments, `stamp_bounds` traces whose labels give bounds of their own stamps, `thinned` smaller problems (`session`);
+//! `scripts` has whole scripts (`session`); `fixtures` what several of them use.
 #![tactic(auto)]
 
 #[cfg(test)]
@@ -30,6 +30,8 @@ mod segments;
 mod several_clocks;
 #[cfg(test)]
 mod stamp_bounds;
+#[cfg(test)]
+mod thinned;
 #[cfg(test)]
 mod wide_captures;
 #[cfg(test)]

@@ -1,9 +1,9 @@
-// Files that have more than a session takes: more than 2^28 bytes, or a log with more than 2^21 rows.
-use crate::fixtures::{replies_over, session_over, step};
-use ports::{FileFail, Files, MemFiles, MemSink};
+// Files that have more than a session takes: more than 2^28 bytes. More rows than fit: `tests/hostile_inputs.py`.
+use crate::fixtures::{session_over, step};
+use ports::{FileFail, Files, MemSink};
 use session::{Session, Stop};
 use shared_fixtures::TWO_LOGS_DECLARATION;
-use std::alloc::{AllocError, Global};
+use std::alloc::Global;
 use std::test::*;
 
 // Files without an end, at every path.
@@ -44,34 +44,4 @@ fn is_refused_over(alloc: Global) -> Result<bool, Stop> {
 #[test]
 fn endless_piece(rt: HostRuntime) {
     assert!(rt; is_refused_over(rt.alloc()) == Ok(true));
-}
-
-// So many local rows.
-fn rows(alloc: Global, count: u32) -> Result<Vec<u8>, AllocError> {
-    let mut text = Vec::new(alloc);
-    for _ in 0..count {
-        text.extend_from_slice(b"0,local,,\n")?;
-    }
-    Ok(text)
-}
-
-fn put_rows(alloc: Global, files: &mut MemFiles, count: u32) -> Result<(), AllocError> {
-    let text = rows(alloc, count)?;
-    files.put("rows", &text)
-}
-
-// Whether a log of so many rows is refused, and nothing is added.
-fn are_rows_refused(alloc: Global, count: u32) -> Result<bool, Stop> {
-    let mut files = MemFiles::new(alloc, &[])?;
-    put_rows(alloc, &mut files, count)?;
-    let lines = [
-        ("add a rows", "refused 27\n"),
-        ("order a#1 a#1", "refused 28\n"),
-    ];
-    replies_over(alloc, TWO_LOGS_DECLARATION, &mut files, &lines)
-}
-
-#[test]
-fn one_event_too_many(rt: HostRuntime) {
-    assert!(rt; are_rows_refused(rt.alloc(), (1 << 21) + 1) == Ok(true));
 }

@@ -28,7 +28,7 @@ const THREE_LOGS: &str = "[hosts.a]\n[hosts.b]\n[labels.p]\nhost = \"b\"\nkind =
 pub(crate) fn declared(alloc: Global, text: &str) -> Option<Decl>
     ensures { IfSome result (λ d. IsDeclaration (declaration_of d)) }
 {
-    read_decl(alloc, text.as_bytes()).ok()
+    declared_by(alloc, text.as_bytes())
 }
 
 // Two hosts with an address of each version, and the beginning of a label at the first one.
