@@ -89,6 +89,12 @@ class Answers(StandingIn):
         self.assertEqual((found.text, found.clocks["a1"].late, found.follows), (f"{PROBLEM}\n", 4, {("a1", "a2"): 5}))
         self.assertEqual((found.events["b#1"].stamp, found.messages["b#1", "a#1"].most), (200, None))
 
+    def test_a_smaller_problem_is_a_text(self) -> None:
+        session = self.session()
+        self.assertEqual((session.thin(), session.thin("a#1", "b#1")), ("problem 1\nend\n", f"{PROBLEM}\n"))
+        with self.assertRaisesRegex(Refused, "refused 28"):
+            session.thin("a#1", "a#9")
+
     def test_what_is_to_blame(self) -> None:
         session = self.session()
         found = session.blame()
@@ -308,7 +314,8 @@ class Tables(StandingIn):
         self.assertEqual((merged.columns, merged.dtype), (["event", "label", "number", "time", "text"], object))
         self.assertEqual(merged.rows[1], ("b#1", "b", 1, 66_000_000_001, "a note"))
         self.assertEqual(timed.columns, ["event", "label", "number", "least", "greatest"])
-        self.assertEqual(timed.rows[:2], [("a#1", "a", 1, 100 * 10**9, None), ("a#2", "a", 2, None, 200_500_000_000)])
+        from_a = [("a#1", "a", 1, 100 * 10**9, None), ("a#2", "a", 2, None, 200_500_000_000)]
+        self.assertEqual(timed.rows, [*from_a, ("b#1", "b", 1, 10**9, 10**9)])
 
     @unittest.skipUnless(has_pandas(), "pandas is not there")
     def test_pandas_keeps_whole_numbers(self) -> None:

@@ -159,7 +159,7 @@ def told_label(name: str, label: Table, hosts: Table) -> str:
 
 
 def told_bounds(label: Table) -> list[str]:
-    """Returns how far a trace's events lie from their stamps, where its label has it otherwise than its clock, in words."""
+    """Returns how far a trace's events lie from their stamps, as its label says it, in words."""
     return [f"its events are up to {ns(label[it])} {side} their stamps" for it, side in (("early", "before"), ("late", "after")) if it in label]
 
 

@@ -131,7 +131,8 @@ class Problem:
     """The bounds of each event, where events have bounds of their own, in place of those of their clocks; else none."""
 
     def bounds_of(self, event: str) -> StampBounds:
-        """Returns how far an event may be from the moment of its stamp, by its own bounds, or else by those of its clock."""
+        """Returns how far an event may be from the moment of its stamp, by its own bounds, or else by those of its
+        clock."""
         clock = self.clocks[self.events[event].clock]
         return self.bounds.get(event) or StampBounds(clock.early, clock.late)
 

@@ -12,7 +12,7 @@ from collections.abc import Sequence
 from typing import Optional
 
 from .errors import Ended, NoProgram
-from .replies import ENDS, is_last
+from .replies import ENDS, is_texted, lines_behind
 
 # Here stands the folder of this package: in a clone the top folder has the crates, and in an installed package the
 # program stands there.
@@ -150,8 +150,13 @@ class LineSession:
 
     def _read_reply(self) -> list[str]:
         reply = [self._line([])]
-        while not is_last(reply):
-            reply.append(self._line(reply))
+        # (how long a reply is, its first line says)
+        if is_texted(reply[0]):
+            while reply[-1] != "end":
+                reply.append(self._line(reply))
+        else:
+            for _ in range(lines_behind(reply[0])):
+                reply.append(self._line(reply))
         return reply
 
     def _line(self, before: list[str]) -> str:

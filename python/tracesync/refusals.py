@@ -11,7 +11,7 @@ from .starts import MAGICS, SECTION, is_capture, packed, start_of
 
 COMMANDS = {
     "add": 2, "interval": 2, "order": 2, "time": 1, "times": 1, "merge": 0, "prove": 2, "keep": 1, "problem": 0, "report": 0,
-    "blame": 0,
+    "blame": 0, "thin": 1,
 }  # fmt: skip
 # What each refusal says of the line, or of what it asks for, without a look at a file.
 CAUSES = {
@@ -22,7 +22,7 @@ CAUSES = {
     24: "no capture begins so, or one of another version",
     25: "at this place of the capture stands no record of a packet",
     26: "this record of the file is no row",
-    27: "there would be more than 2,097,152 events",
+    27: "there would be more than 16,777,216 events",
     28: "there is no such event",
     29: "no source is declared, or its clock has no event so far",
     30: "eight events are kept, and this is none of them",
@@ -95,9 +95,10 @@ class Refusals:
         count = len(words) - 1
         if words[0] == "add" and count > 2:
             return "a path has no blanks, and no quotes help: give the file another name by a link, ln -s"
-        # (`times` stands alone, too)
-        if count != COMMANDS[words[0]] and (words[0], count) != ("times", 0):
-            return f"`{words[0]}` has {COMMANDS[words[0]]} words behind it, and here are {count}"
+        # (`times` stands alone, too, and `thin` with any number of words)
+        if words[0] != "thin" and count != COMMANDS[words[0]] and (words[0], count) != ("times", 0):
+            wanted = "one word behind it, or none" if words[0] == "times" else f"{COMMANDS[words[0]]} words behind it"
+            return f"`{words[0]}` has {wanted}, and here are {count}"
         return "it has a byte that is not plain ASCII"
 
     def no_label(self, label: str) -> str:

@@ -22,7 +22,8 @@ def is_texted(line: str) -> bool:
 
 
 def lines_behind(first: str) -> int:
-    """Returns how many lines stand behind the first one of a reply that says so, as those of `merge` and `times` do; 0 of others."""
+    """Returns how many lines stand behind the first one of a reply that says so, as those of `merge` and `times` do; 0
+    of others."""
     words = first.split(" ")
     return int(words[1]) if words[0] in ("merge", "times") and len(words) == 2 and words[1].isdigit() else 0
 

@@ -261,6 +261,21 @@ class Session:
                 raise
             return self.problem().blame(self._lines.program)
 
+    def thin(self, *events: str) -> str:
+        """Returns the text of a problem that says the same of these events as all that is declared and known does.
+
+        It has few of the messages and events where others imply the rest, and has an execution exactly where the whole
+        has one. Of each two events in it the program's `ends` says what it says of the whole. There may be no events, or
+        one of them twice. Raises `Refused` with 28, and `Ended` where memory runs out.
+
+        >>> with Session("examples/session/hosts.toml") as session:
+        ...     added = [session.add(it, f"examples/session/{it}.csv") for it in ("web", "db")]
+        ...     found = read_problem(session.thin("db#2").splitlines())
+        >>> sorted(found.events)
+        ['db#1', 'db#2', 'db#3', 'web#1', 'web#3']
+        """
+        return "".join(f"{line}\n" for line in self._ask("thin", *events))
+
     def report(self) -> Report:
         """Returns what was matched and what was not, as a dictionary.
 

@@ -64,7 +64,8 @@ def read_merge(lines: list[str]) -> Merge:
 
 
 class Times(Dict[str, Interval]):
-    """When each event was, at least and at most, by its name: by the clock of the source, or since an event. A dictionary."""
+    """When each event was, at least and at most, by its name: by the clock of the source, or since an event. A
+    dictionary."""
 
     def to_pandas(self) -> Any:
         """Returns a `pandas.DataFrame` with the columns `event`, `label`, `number`, `least` and `greatest`.

@@ -57,7 +57,7 @@ class Capture:
         return max(size, self.unit) if self.packets else self.unit
 
     def digits(self) -> int:
-        """Returns the same."""
+        """Returns the ns that all stamps are multiples of."""
         return self.resolution()
 
 

@@ -1,9 +1,11 @@
-"""Pictures of clocks and of delays over time, in SVG: a panel for each clock, and one for each link, with both ends of what is certain."""
+"""Pictures of clocks and of delays over time, in SVG: a panel for each clock, and one for each link, with both ends of what is certain of all events."""
 
 from collections.abc import Iterator
 from dataclasses import dataclass, field
 from html import escape
+from operator import itemgetter
 
+from delays import Delays
 from inks import INKS
 from texts import plain
 from timeline import Timeline
@@ -14,22 +16,28 @@ from words import DECIMALS, anchor, count_text, decimal_text, span_text, unit_of
 Point = tuple[int, int | None, int | None]
 
 WIDE, LEFT, RIGHT, TOP, HIGH, HEAD, FOOT = 1000, 92, 20, 30, 150, 24, 40
+# How wide a letter is.
+LETTER = 6.1
 # How wide a histogram is, how far it is from its panel, and how many bars it has.
 SIDE, GAP, BARS = 150, 16, 38
 PANELS_MOST = 24
-# How many marks an axis has at most, across and up.
-MARKS_ACROSS, MARKS_UP = 9, 5
+# How many marks an axis has at most, across and up; and it counts from a number near what is drawn, if that is farther off than so many times
+# its own size.
+MARKS_ACROSS, MARKS_UP, FAR = 9, 5, 100
+NAMESPACE = ' xmlns="http://www.w3.org/2000/svg"'
 STYLE = 'font-family="Helvetica, Arial, sans-serif" font-size="11"'
 
 
 @dataclass
 class Panel:
-    """A panel: its title, its ink, its points in the order of time, and whether a histogram stands beside it."""
+    """A panel: its title, its ink, its points in the order of time, whether a histogram stands beside it, and those points of which both ends
+    are the exact ones, where there are others."""
 
     title: str
     ink: str
     points: list[Point] = field(default_factory=list)
     has_histogram: bool = False
+    exact: list[Point] = field(default_factory=list)
 
 
 def offset_panels(found: Timeline) -> list[Panel]:
@@ -37,17 +45,13 @@ def offset_panels(found: Timeline) -> list[Panel]:
     by_source = any(it.source_time for it in found.events)
     base, ends = next(iter(found.ends.items()))
     zero = 0 if by_source else found.find(base).stamp
-    panels = []
-    for at, host in enumerate(found.hosts):
-        panel = Panel(host, INKS[at % len(INKS)])
-        for it in found.events:
-            least, greatest = (it.source_time or (None, None)) if by_source else ends[it.name]
-            if it.host == host and (least is not None or greatest is not None):
-                stamp = (it.stamp - zero) * UNITS
-                panel.points.append((it.time, None if greatest is None else stamp - greatest, None if least is None else stamp - least))
-        if panel.points:
-            panels.append(panel)
-    return panels
+    panels = {host: Panel(host, INKS[at % len(INKS)]) for at, host in enumerate(found.hosts)}
+    for it in found.events:
+        least, greatest = (it.source_time or (None, None)) if by_source else ends[it.name]
+        if least is not None or greatest is not None:
+            stamp = (it.stamp - zero) * UNITS
+            panels[it.host].points.append((it.time, None if greatest is None else stamp - greatest, None if least is None else stamp - least))
+    return [it for it in panels.values() if it.points]
 
 
 def offset_title(found: Timeline) -> str:
@@ -59,21 +63,24 @@ def offset_title(found: Timeline) -> str:
 
 
 def delay_panels(found: Timeline) -> list[Panel]:
-    """Returns a panel for each link whose messages were asked for their delays."""
-    times, hosts = {it.name: it.time for it in found.events}, {it.name: it.host for it in found.events}
-    links: dict[tuple[str, str], list[Point]] = {}
-    counts: dict[tuple[str, str], int] = {}
+    """Returns a panel for each link with all its messages: the ends of each that was asked for, and those that are left of each other one."""
+    events, delays = {it.name: it for it in found.events}, Delays(found)
+    links: dict[tuple[str, str], list[tuple[bool, Point]]] = {}
     for it in found.messages:
-        link = (hosts[it.send], hosts[it.receive])
-        counts[link] = counts.get(link, 0) + 1
-        if it.delay and it.delay != (None, None):
-            links.setdefault(link, []).append((times[it.send], *it.delay))
+        send, ends = events[it.send], it.delay or delays.around(it)
+        if ends != (None, None):
+            links.setdefault((send.host, events[it.receive].host), []).append((bool(it.delay), (send.time, *ends)))
     panels = []
-    for (one, other), points in sorted(links.items()):
-        count, open_ends = counts[one, other], sum(greatest is None for _, _, greatest in points)
-        told = count_text(count, "message") if len(points) == count else f"{len(points)} of {count_text(count, 'message')}"
+    for (one, other), own in sorted(links.items()):
+        points = sorted((point for _, point in own), key=itemgetter(0))
+        exact = [point for is_exact, point in own if is_exact]
+        told, open_ends = count_text(len(points), "message"), sum(greatest is None for _, _, greatest in points)
         told += f", {open_ends} of them without a greatest" if open_ends else ""
-        panels.append(Panel(f"{one} to {other}: {told}", INKS[found.hosts.index(one) % len(INKS)], sorted(points), True))
+        panel = Panel(f"{one} to {other}: {told}", INKS[found.hosts.index(one) % len(INKS)], points, True)
+        if len(exact) < len(points):
+            panel.title += f"; {len(exact)} were asked for (black), of the others it is what the times of their events leave"
+            panel.exact = exact
+        panels.append(panel)
     return panels
 
 
@@ -98,6 +105,12 @@ def axis_unit(first: int, last: int, zero: int) -> tuple[int, str]:
     return unit_of(max(abs(first - zero), abs(last - zero), 1))
 
 
+def axis_name(first: int, last: int, zero: int) -> str:
+    """Returns in what an axis counts, and from where on if that is not 0."""
+    size = axis_unit(first, last, zero)[1]
+    return f"{size} from {decimal_text(zero, 10**9 * UNITS, digits=DECIMALS['s'])} s" if zero else size
+
+
 class Drawing:
     """Draws one panel; what is great and hardly differs is drawn from a number near it on, which the axis names."""
 
@@ -108,7 +121,8 @@ class Drawing:
         low, high = min(ends), max(ends)
         room = max((high - low) // 20, UNITS // 1000)
         self.low, self.high = (0 if panel.has_histogram and 0 <= low < (high - low) // 4 else low - room), high + room
-        self.zero = anchor(low, high) if max(abs(low), abs(high)) > 100 * (high - low + room) else 0
+        self.zero = anchor(low, high) if max(abs(low), abs(high)) > FAR * (high - low + room) else 0
+        self.start = anchor(self.first, self.last) if self.last > FAR * (self.last - self.first) else 0
 
     def x(self, time: int) -> float:
         return LEFT + (time - self.first) / (self.last - self.first) * (self.right - LEFT)
@@ -122,43 +136,48 @@ class Drawing:
         least, greatest = best_known(self.panel.points)
         told = f"{self.panel.title}; at the best known moment {span_text(least, greatest)}" if not self.panel.has_histogram else self.panel.title
         out = [f'<text x="{LEFT}" y="{HEAD - 8}" font-size="12" font-weight="bold" fill="{self.panel.ink}">{escape(plain(told))}</text>', *self.axes()]
-        out += self.envelope() if len(self.panel.points) > self.right - LEFT else self.bars()
+        if len(self.panel.points) > self.right - LEFT:
+            out += self.envelope()
+        else:
+            out += self.bars(self.panel.points, self.panel.ink, 0.35 if self.panel.exact else 0.75)
+        out += self.bars(self.panel.exact, "#000", 1)
         return out + (self.histogram() if self.panel.has_histogram else [])
 
     def axes(self) -> list[str]:
-        foot, size = HEAD + HIGH, axis_unit(self.low, self.high, self.zero)[1]
-        name = f"{size} from {decimal_text(self.zero, 10**9 * UNITS, digits=18)} s" if self.zero else size
+        foot, name = HEAD + HIGH, axis_name(self.low, self.high, self.zero)
         out = [f'<rect x="{LEFT}" y="{HEAD}" width="{self.right - LEFT}" height="{HIGH}" fill="none" stroke="#bbb"/>']
         for value, text in marks(self.low, self.high, MARKS_UP, self.zero):
             y = self.y(value, 0)
             if HEAD - 0.5 <= y <= foot + 0.5:
                 out.append(f'<line x1="{LEFT}" y1="{y:.1f}" x2="{self.right}" y2="{y:.1f}" stroke="#eee"/>')
                 out.append(f'<text x="{LEFT - 5}" y="{y + 4:.1f}" text-anchor="end" fill="#666">{text}</text>')
-        for value, text in marks(self.first, self.last, MARKS_ACROSS, 0):
-            x = self.x(value)
+        for value, text in marks(self.first, self.last, MARKS_ACROSS, self.start):
+            # (what stands at the right end goes no farther, where a histogram is)
+            x, half = self.x(value), LETTER * len(text) / 2
             out.append(f'<line x1="{x:.1f}" y1="{foot}" x2="{x:.1f}" y2="{foot + 4}" stroke="#999"/>')
-            out.append(f'<text x="{x:.1f}" y="{foot + 16}" text-anchor="middle" fill="#666">{text}</text>')
+            out.append(f'<text x="{min(x, self.right - half):.1f}" y="{foot + 16}" text-anchor="middle" fill="#666">{text}</text>')
         out.append(f'<text transform="translate(14 {HEAD + HIGH / 2}) rotate(-90)" text-anchor="middle" fill="#444">{escape(name)}</text>')
-        across = axis_unit(self.first, self.last, 0)[1]
+        across = axis_name(self.first, self.last, self.start)
         return [*out, f'<text x="{(LEFT + self.right) / 2}" y="{foot + 30}" text-anchor="middle" fill="#444">time in the earliest execution, {across}</text>']
 
-    def bars(self) -> list[str]:
+    def bars(self, points: list[Point], ink: str, shade: float) -> list[str]:
         """Returns each point as a bar from its least to its greatest end."""
         paths = []
-        for time, least, greatest in self.panel.points:
+        for time, least, greatest in points:
             x, low, high = self.x(time), self.y(least, self.low), self.y(greatest, self.high)
             ticks = [f"M{x - 2:.1f} {y:.1f}h4" for y, end in ((low, least), (high, greatest)) if end is not None]
             paths.append(f"M{x:.1f} {low:.1f}V{high:.1f}{''.join(ticks)}")
-        return [f'<path d="{"".join(paths)}" stroke="{self.panel.ink}" stroke-opacity="0.75" fill="none"/>']
+        return [f'<path d="{"".join(paths)}" stroke="{ink}" stroke-opacity="{shade}" fill="none"/>'] if paths else []
 
-    def columns(self) -> Iterator[tuple[float, list[float]]]:
+    def columns(self) -> Iterator[tuple[int, list[float]]]:
         """Yields for each pixel across, with points, where the highest and the lowest of their greatest ends lie, and of their least ends."""
-        found: dict[int, list[float]] = {}
+        found: dict[int, list[int]] = {}
         for time, least, greatest in self.panel.points:
-            low, high, at = self.y(least, self.low), self.y(greatest, self.high), round(self.x(time))
-            old = found.setdefault(at, [high, high, low, low])
-            found[at] = [min(old[0], high), max(old[1], high), min(old[2], low), max(old[3], low)]
-        yield from sorted(found.items())
+            low, high = self.low if least is None else least, self.high if greatest is None else greatest
+            own = found.setdefault(round(self.x(time)), [high, high, low, low])
+            own[:] = max(own[0], high), min(own[1], high), max(own[2], low), min(own[3], low)
+        for at, own in sorted(found.items()):
+            yield at, [self.y(it, 0) for it in own]
 
     def envelope(self) -> list[str]:
         """Returns what many points cover: of each pixel across all between the ends, and more strongly where the ends themselves lie."""
@@ -193,8 +212,8 @@ def best_known(points: list[Point]) -> tuple[int | None, int | None]:
     return min(found)[1:] if found else (None, None)
 
 
-def chart(panels: list[Panel], title: str, is_proved: bool, is_file: bool) -> str:
-    """Returns panels as one picture, for a file of its own, or for a page; an empty text where there are none."""
+def chart(panels: list[Panel], title: str, is_proved: bool) -> str:
+    """Returns panels as one picture; an empty text where there are none."""
     if not panels:
         return ""
     more = f"; {len(panels) - PANELS_MOST} more are not drawn" if len(panels) > PANELS_MOST else ""
@@ -203,19 +222,23 @@ def chart(panels: list[Panel], title: str, is_proved: bool, is_file: bool) -> st
     times = [time for panel in shown for time, _, _ in panel.points]
     each = HEAD + HIGH + FOOT
     high = TOP + each * len(shown) + 6
-    name = ' xmlns="http://www.w3.org/2000/svg"' if is_file else ""
-    out = [f'<svg{name} viewBox="0 0 {WIDE} {high}" width="{WIDE}" height="{high}" {STYLE}>', f'<rect width="{WIDE}" height="{high}" fill="#fff"/>',
+    out = [f'<svg{NAMESPACE} viewBox="0 0 {WIDE} {high}" width="{WIDE}" height="{high}" {STYLE}>', f'<rect width="{WIDE}" height="{high}" fill="#fff"/>',
            f'<text x="16" y="20" font-size="13" fill="#333">{escape(plain(told))}</text>']  # fmt: skip
     for at, panel in enumerate(shown):
         out += [f'<g transform="translate(0 {TOP + each * at})">', *Drawing(panel, min(times), max(times)).svg(), "</g>"]
     return "\n".join([*out, "</svg>"]) + "\n"
 
 
-def offset_chart(found: Timeline, is_file: bool = True) -> str:
+def embedded(picture: str) -> str:
+    """Returns a picture as it stands within a page."""
+    return picture.replace(NAMESPACE, "", 1)
+
+
+def offset_chart(found: Timeline) -> str:
     """Returns the picture of all clocks."""
-    return chart(offset_panels(found), offset_title(found), found.is_proved, is_file)
+    return chart(offset_panels(found), offset_title(found), found.is_proved)
 
 
-def delay_chart(found: Timeline, is_file: bool = True) -> str:
+def delay_chart(found: Timeline) -> str:
     """Returns the picture of the delays of all links."""
-    return chart(delay_panels(found), "One-way delays: the least and the greatest that each message can have had", found.is_proved, is_file)
+    return chart(delay_panels(found), "One-way delays: no message took less than its least, and none more than its greatest one", found.is_proved)

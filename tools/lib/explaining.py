@@ -82,7 +82,7 @@ class Explainer:
             "times": lambda: f"the least and the greatest time of {count_text(int(words[1]), 'event')}, in ns: {'since ' + asked[1] if len(asked) > 1 else 'by the clock of the source'}",
             "kept": lambda: f"questions about {names[0]} are answered at once from now on (the {words[1]}. of eight that can be kept)",
             "merge": lambda: f"{count_text(int(words[1]), 'event')} in the order of one execution, the earliest: for two of them ask `order`",
-            "problem": lambda: self.told_problem(reply),
+            "problem": lambda: self.told_problem(reply, thinned=asked[0] == "thin"),
         }
         if words[0] in tellers:
             return [tellers[words[0]]()]
@@ -97,11 +97,13 @@ class Explainer:
             return ["evidence for both ends of the interval, which `verify` checks against the reply to `problem`"]
         return self.told_end(reply) or ["no reply of a session"]
 
-    def told_problem(self, reply: list[str]) -> str:
-        self.problem = reply
+    def told_problem(self, reply: list[str], thinned: bool = False) -> str:
+        if not thinned:
+            self.problem = reply
         problem = read_problem(reply)
         counts = [(len(problem.clocks), "clock"), (len(problem.follows), "follow"), (len(problem.events), "event"), (len(problem.messages), "message")]
-        return f"all that is declared and known: {', '.join(count_text(it, name) for it, name in counts if it or name != 'follow')}"
+        what = "what implies all the rest of it" if thinned else "all that is declared and known"
+        return f"{what}: {', '.join(count_text(it, name) for it, name in counts if it or name != 'follow')}"
 
     def time(self, least: int | None, greatest: int | None, name: str) -> str:
         ends = [stamp_text(it // UNITS) if it is not None else "no limit" for it in (least, greatest)]

@@ -145,8 +145,14 @@ def is_unicast(address: bytes) -> bool:
     return not (it.is_multicast or it.is_loopback or it.is_unspecified or address == b"\xff" * 4)
 
 
+@lru_cache(maxsize=1 << 16)
+def short_address(address: bytes) -> str:
+    """Returns an address as it is mostly written, one of IPv6 without zeros that may be left out."""
+    return str(ip_address(address))
+
+
 def end_text(address: bytes, port: int) -> str:
-    text = str(ip_address(address))
+    text = short_address(address)
     return f"[{text}]:{port}" if len(address) == 16 else f"{text}:{port}"
 
 
@@ -161,7 +167,7 @@ def described(packet: Packet) -> tuple[str, str]:
         return (f"type {kind:04x}",) * 2 if kind else (f"link {packet.link}",) * 2
     if found.ports is None:
         name = PROTOCOLS.get(found.protocol, {TCP: "TCP", UDP: "UDP"}.get(found.protocol, f"protocol {found.protocol}"))
-        return f"{name} {ip_address(found.source)} > {ip_address(found.target)}", name
+        return f"{name} {short_address(found.source)} > {short_address(found.target)}", name
     ends = [end_text(address, port) for address, port in zip((found.source, found.target), found.ports)]
     flags = " " + ",".join(name for bit, name in FLAG_NAMES if found.flags & bit) if found.protocol == TCP else ""
     size = f" {found.payload_length} bytes" if found.payload_length or found.protocol == UDP else ""

@@ -3,7 +3,7 @@
 import argparse
 import os
 import sys
-from collections.abc import Callable
+from collections.abc import Callable, Iterable
 from typing import Any
 
 import neighbours
@@ -16,13 +16,13 @@ from declaring import Declaring
 from ends import declared_own
 from event_count import LOOK_MOST, LOOK_TIME, count_events
 from explaining import Explainer
-from files import read_own, write_own
+from files import read_own, write_own, write_parts
 from gathering import Gathering
 from healing import healing_of
 from inputs import Input, with_hosts
 from losses import loss_lines
 from own_program import BUILT, PROGRAM, Look, RecordedSession
-from page import page
+from page import held_events, page
 from progress import Progress
 from shortfall import Shortfall, unknown_lines
 from texts import plain
@@ -48,6 +48,8 @@ OUTPUTS = {
 }
 
 
+# The pictures that the page has, too.
+CHARTS: dict[str, Callable[[Timeline], str]] = {"offsets": offset_chart, "one_way": delay_chart}
 # What is written into the folder where no output is named.
 KEPT = {"html": "timeline.html", "svg": "timeline.svg", "offsets": "offsets.svg", "one_way": "delays.svg"}
 
@@ -77,7 +79,8 @@ class Making:
         if len(self.chosen) > FROM_MOST:
             raise ValueError(f"--from has {len(self.chosen)} events, and {FROM_MOST} can be kept")
         self.proved = [pair_of(word) for word in said.proved]
-        self.delays, self.events = said.delays, said.events
+        self.delays, self.events, self.held = said.delays, said.events, said.page
+        self.charts: dict[str, str] = {}
         # (questions for orders come last, and would have the program compiled once more)
         self.pairs = said.pairs if said.pairs is not None or self.program else 0
         self.outputs = {name: getattr(said, name) for name in OUTPUTS if getattr(said, name)}
@@ -117,8 +120,8 @@ class Making:
         if not self.program:
             found.is_proved = False
             found.notes.append("this was made by tools/first-look, and NOTHING OF IT IS PROVED")
-        self.keep("script.txt", "".join(f"{line}\n" for line in session.script))
-        self.keep("replies.txt", "".join(f"{line}\n" for reply in session.replies for line in reply))
+        self.keep_lines("script.txt", [session.script])
+        self.keep_lines("replies.txt", session.replies)
         return self.write(found)
 
     def refuse_look(self, inputs: list[Input]) -> None:
@@ -159,6 +162,7 @@ class Making:
     def write(self, found: Timeline) -> int:
         """Tells what was found, and writes the outputs. Returns the status."""
         explainer = Explainer(declaration=self.declaration, program=self.program)
+        self.progress.begin("telling what was found")
         self.say(*Words(found).lines())
         refused = [(f"add {it.label} {it.path}", reply.split(" ")) for it, reply in found.added if reply.startswith("refused ")]
         for line, words in refused:
@@ -172,6 +176,9 @@ class Making:
             return 1
         self.progress.begin("writing what was found")
         self.say(*Shortfall([it for it, _ in found.added], self.declared(), found.report, self.declaration, self.asked, self.is_found).lines())
+        if not self.outputs or "html" in self.outputs:
+            told = held_events(found, self.held, self.chosen[:1])[1]
+            self.say(*([f"Note: {told}."] if told else []))
         for name, path in self.outputs.items():
             self.output_to(path, self.output(name, found))
         if not self.outputs:
@@ -217,21 +224,33 @@ class Making:
 
     def output(self, name: str, found: Timeline) -> str:
         """Returns the text of an output."""
+        if name in CHARTS:
+            return self.chart(name, found)
         if name == "html":
-            return page(found, f"Timeline of {', '.join(found.hosts)}")
+            charts = [self.chart(it, found) for it in CHARTS]
+            return page(found, f"Timeline of {', '.join(found.hosts)}", self.held, self.chosen[:1], charts)
         if name == "svg":
             return picture.svg(found, self.events, self.chosen[:1])
         if name == "list":
             return "".join(f"{it}\n" for it in list_lines(found))
         makers: dict[str, Callable[[Timeline], str]] = {
-            "offsets": offset_chart, "one_way": delay_chart, "json": tables.as_json, "csv": tables.as_csv,
-            "chrome": neighbours.chrome, "shiviz": neighbours.shiviz,
+            "json": tables.as_json, "csv": tables.as_csv, "chrome": neighbours.chrome, "shiviz": neighbours.shiviz,
         }  # fmt: skip
         return makers[name](found)
+
+    def chart(self, name: str, found: Timeline) -> str:
+        """Returns the picture of clocks or that of delays, which is drawn once for the page and its own file."""
+        if name not in self.charts:
+            self.charts[name] = CHARTS[name](found)
+        return self.charts[name]
 
     def keep(self, name: str, text: str) -> None:
         """Writes a file into the folder."""
         write_own(f"{self.folder}/{name}", text)
+
+    def keep_lines(self, name: str, texts: Iterable[list[str]]) -> None:
+        """Writes a file of the lines of several texts into the folder."""
+        write_parts(f"{self.folder}/{name}", ("".join(f"{line}\n" for line in text).encode() for text in texts))
 
     def say(self, *lines: str) -> None:
         """Says lines on the standard output, or on the standard error where an output goes there: without signs that cannot be seen."""

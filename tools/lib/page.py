@@ -3,18 +3,23 @@
 import json
 import os
 import re
-from collections.abc import Iterable
+from collections.abc import Collection, Iterable
+from dataclasses import replace
 from html import escape
 from typing import Any
 
 from chains import Chain
-from charts import delay_chart, offset_chart
-from timeline import Timeline
+from charts import delay_chart, embedded, offset_chart
+from picture import chosen_part
+from timeline import Event, Timeline
 from tracesync.numbers import short_ns
 from words import Words
 
 # What the program said, which of it is shown, how it is drawn with arrows and proofs, and what one does: in this order.
 SCRIPTS = ("page_said.js", "page_shown.js", "page_drawn.js", "page_bundled.js", "page_proved.js", "page_done.js")
+# How many events a page has at most if it is not said: these are 5 to 20 MB, which a browser opens and draws within seconds.
+EVENTS_MOST = 50_000
+PART_TOLD = "and clocks and delays of all; --from EVENT makes one around another event, --page N one of N"
 HERE = os.path.dirname(os.path.realpath(__file__))
 
 
@@ -56,12 +61,39 @@ def chain_data(chain: Chain, places: dict[str, int]) -> dict[str, Any]:
     return {"end": ends_text(chain.end), "legs": legs, "inside": chain.inside}
 
 
-def page_data(found: Timeline) -> dict[str, Any]:
+def proved_events(found: Timeline) -> set[str]:
+    """Returns the events of all proofs, and those on the way from one to another."""
+    legs = [leg for it in found.proofs.values() for chain in (it.least, it.greatest) for leg in chain.legs]
+    return {name for pair in (*found.proofs, *((it.start, it.end) for it in legs)) for name in pair}
+
+
+def held_events(found: Timeline, most: int, around: Collection[str]) -> tuple[list[Event], str | None]:
+    """Returns at most so many events around the first of these names, or the first message; and what there is to say of the part that they are."""
+    part, told = chosen_part(found, most, around or {it.send for it in found.messages})
+    return part, told and f"the page has {told}, {PART_TOLD}"
+
+
+def part_of(found: Timeline, part: list[Event]) -> Timeline:
+    """Returns a timeline with these events, the other ends of their messages, and the events of which bars or proofs speak."""
+    names = {it.name for it in part}
+    messages = [it for it in found.messages if it.send in names or it.receive in names]
+    names |= {name for it in messages for name in (it.send, it.receive)} | proved_events(found) | set(found.ends)
+    events = [it for it in found.events if it.name in names]
+    orders = {pair: order for pair, order in found.orders.items() if names.issuperset(pair)}
+    return replace(found, events=events, messages=messages, orders=orders)
+
+
+def page_data(whole: Timeline, most: int, around: Collection[str]) -> dict[str, Any]:
     """Returns what the page draws, as values of JSON: numbers of ns are texts, so that no digit is lost."""
-    words = Words(found)
+    words = Words(whole)
+    part, told = held_events(whole, most, around)
+    found = part_of(whole, part) if told else whole
     hosts = {host: at for at, host in enumerate(found.hosts)}
     places = {it.name: at for at, it in enumerate(found.events)}
     return {
+        "all": [len(whole.events), len(whole.messages)],
+        # (what a part was made around, it begins with)
+        "first": next((places[name] for name in around if name in places), None) if told else None,
         "hosts": found.hosts,
         "events": [[it.name, hosts[it.host], str(it.stamp), short_ns(it.time), it.text, *([it.brief] if it.brief != it.text else [])] for it in found.events],
         "messages": [[places[it.send], places[it.receive], *([ends_text(end) for end in it.delay] if it.delay else [])] for it in found.messages],
@@ -72,15 +104,16 @@ def page_data(found: Timeline) -> dict[str, Any]:
         "orders": {f"{places[one]},{places[other]}": order[0] for (one, other), order in found.orders.items()},
         "proofs": proof_data(found, places),
         **record_data(found),
-        "words": [*words.files(), *words.matched(), *words.offsets(), *words.notes()],
+        "words": [*words.files(), *words.matched(), *words.offsets(), *words.notes(), *([f"Note: {told}."] if told else [])],
         "delays": words.delay_rows(),
     }
 
 
-def page(found: Timeline, title: str) -> str:
-    """Returns the page."""
+def page(found: Timeline, title: str, most: int = EVENTS_MOST, around: Collection[str] = (), pictures: Iterable[str] | None = None) -> str:
+    """Returns the page of at most so many events, around the first of these names; with the pictures of clocks and of delays, which are drawn
+    for it where none are given."""
     # (no text can end the script)
-    data = json.dumps(page_data(found), separators=(",", ":")).replace("<", "\\u003c")
-    charts = offset_chart(found, is_file=False) + delay_chart(found, is_file=False)
+    data = json.dumps(page_data(found, most, around), separators=(",", ":")).replace("<", "\\u003c")
+    charts = "".join(embedded(it) for it in pictures or (offset_chart(found), delay_chart(found)))
     parts = {"TITLE": escape(title), "DATA": data, "CHARTS": charts or "<p>Nothing is known of clocks or delays.</p>", "SCRIPT": "".join(part(it) for it in SCRIPTS)}
     return re.sub("@@([A-Z]+)@@", lambda it: parts[it[1]], part("page.html"))

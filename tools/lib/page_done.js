@@ -227,7 +227,7 @@ function open() {
 // Says how much of all is shown, and where the view begins if that is not at the first event, or ends before the last.
 function sayCounts(before, isPart) {
   const told = (own, all, name) => `${own === all ? "" : `${own} of `}${all} ${name}`;
-  const counted = `${told(shown.length, events.length, "events")}, ${told(shownMessages.length, messages.length, "messages")}`;
+  const counted = `${told(shown.length, DATA.all[0], "events")}, ${told(shownMessages.length, DATA.all[1], "messages")}`;
   const earlier = before ? `, and ${before} ${before === 1 ? "event is" : "events are"} earlier` : "";
   const begin = `; it begins at the first ${shownMessages.length ? "message" : "event"}${earlier}: all shows all`;
   el("said").textContent = counted + (shown.length ? "" : ": no event is like that") + (before || isPart ? begin : "");
@@ -247,7 +247,7 @@ turn(false);
 const wanted = new URLSearchParams(location.hash.slice(1));
 if (wanted.get("text")) { el("text").value = wanted.get("text"); show(ALL, "", wanted.get("text")); }
 if (wanted.get("scale") === "true") { el("scale").value = "true"; el("scale").onchange(); }
-if (byName.has(wanted.get("event"))) goTo(byName.get(wanted.get("event"))); else tell();
+if (byName.has(wanted.get("event"))) goTo(byName.get(wanted.get("event"))); else if (DATA.first !== null) goTo(events[DATA.first]); else tell();
 if (byName.has(wanted.get("with"))) compareWith(byName.get(wanted.get("with")));
 if (wanted.get("all") === "true") fit();
 if (wanted.get("charts") === "true") turn(true);

@@ -10,12 +10,13 @@ from inputs import Input
 from segments import Segments
 from sides import Sides, message_count
 from sights import View
+from tracesync.declaration import BEYOND, NEAR
 from vantage import KEYS, Vantage, names
 from votes import Votes
 
 # What a label says, in the order in which it is written.
-ORDER = ("segment", "interface", "addresses", "addresses6", "beyond", "beyond6")
-SIDES = {"addresses", "addresses6", "beyond", "beyond6"}
+ORDER = ("segment", "interface", *NEAR, *BEYOND)
+SIDES = {*NEAR, *BEYOND}
 # Two labels have the same packets where so large a part of them is at both.
 TWIN_PART = 0.9
 

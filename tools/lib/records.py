@@ -2,14 +2,13 @@
 
 from collections.abc import Iterator
 from dataclasses import dataclass
-from ipaddress import ip_address
 
 from captures import Packet
-from headers import PROTOCOLS, TCP, UDP, decode, described, end_text
+from headers import PROTOCOLS, TCP, UDP, decode, described, end_text, short_address
 from inputs import Input
 
 
-@dataclass(frozen=True)
+@dataclass(frozen=True, slots=True)
 class Record:
     """A packet or row: in words and in few words, the two ends of its connection, the key of a row, and its file with the
     number that Wireshark gives it as a frame, None where it is no packet or versions differ."""
@@ -40,6 +39,6 @@ def connection_of(packet: Packet) -> str:
     name = {TCP: "TCP", UDP: "UDP"}.get(found.protocol) or PROTOCOLS.get(found.protocol, f"protocol {found.protocol}")
     if found.ports is None:
         ends = sorted((found.source, found.target))
-        return f"{name} {ip_address(ends[0])} and {ip_address(ends[1])}"
+        return f"{name} {short_address(ends[0])} and {short_address(ends[1])}"
     ends = sorted(zip((found.source, found.target), found.ports))
     return f"{name} {end_text(*ends[0])} and {end_text(*ends[1])}"

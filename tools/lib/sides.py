@@ -8,7 +8,7 @@ from headers import Key
 from sights import View
 from tracesync.declaration import BITS, subnet, subnets_of
 
-NEAR, UNSAID, BEYOND = 0, 1, 2
+IS_NEAR, IS_UNSAID, IS_BEYOND = 0, 1, 2
 
 
 class Sides:
@@ -39,8 +39,8 @@ class Sides:
         bits, is_beyond = max(fits, default=(-1, False))
         is_own = all(its for _, its in found) and self.hosts.get(address, "") == table.get("host")
         if is_own and bits < BITS[version]:
-            return NEAR
-        return UNSAID if not fits else BEYOND if is_beyond else NEAR
+            return IS_NEAR
+        return IS_UNSAID if not fits else IS_BEYOND if is_beyond else IS_NEAR
 
     def side(self, label: str, source: bytes, target: bytes) -> int:
         """Returns 1 for a packet that was sent there, -1 for one that was received, and 0 for one of neither."""

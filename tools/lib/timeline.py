@@ -16,8 +16,8 @@ from inputs import Input
 from own_program import Look, RecordedSession
 from progress import Progress
 from records import Record, records_of
-from tracesync.numbers import Interval, read_interval
-from tracesync.problems import Problem, read_problem
+from tracesync.numbers import UNITS, Interval, read_interval
+from tracesync.problems import Delay, Problem, read_problem
 from tracesync.timelines import Merge, Times, read_merge, read_times
 
 K = TypeVar("K")
@@ -38,7 +38,7 @@ NO_SOURCE = "refused 29"
 BEFORE, AFTER, SAME, OPEN = "before", "after", "same", "open"
 
 
-@dataclass
+@dataclass(slots=True)
 class Event:
     """An event: its name, host, stamp in ns, time in the earliest execution in units, what it is, the same in few words,
     its ends by the clock of the source, and the packet or row that it is."""
@@ -53,13 +53,15 @@ class Event:
     record: Record = Record()
 
 
-@dataclass
+@dataclass(slots=True)
 class Message:
-    """A message: its two events, and its delay's ends in units where they were asked for; the greatest may be None for no limit."""
+    """A message: its two events, its delay's ends in units where they were asked for, and those that are declared; a greatest may be None for
+    no limit."""
 
     send: str
     receive: str
     delay: Interval | None = None
+    declared: Interval = Interval(None, None)
 
 
 @dataclass
@@ -164,7 +166,7 @@ class Asking:
             it = records.get(name, Record())
             self.found.events.append(Event(name, host, stamp, time, text or it.text, text or it.brief, record=it))
         self.found.hosts = list(dict.fromkeys([*(it.host for it in self.found.events), *problem.clocks]))
-        self.found.messages = [Message(*it) for it in problem.messages]
+        self.found.messages = [Message(*ends, declared=declared_of(it)) for ends, it in problem.messages.items()]
 
     def records(self, problem: Problem) -> dict[str, Record]:
         """Returns the packet or row behind each event; nothing of a label with another number of events."""
@@ -265,6 +267,11 @@ class Asking:
                 found.notes.append(f"{told}{', the nearest in the list' if most else ''}; --pairs N asks N")
                 break
         self.ask_rounds({"asking for orders": questions})
+
+
+def declared_of(it: Delay) -> Interval:
+    """Returns the ends of a declared delay in units."""
+    return Interval(it.least * UNITS, None if it.most is None else it.most * UNITS)
 
 
 def ends_of(words: list[str]) -> Interval:

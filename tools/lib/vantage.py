@@ -8,13 +8,13 @@ from inputs import Input
 from interfaces import Interfaces
 from sights import View, take_heads, views_of
 from subnets import cover, subnet_text
-from tracesync.declaration import SUBNETS_MOST
+from tracesync.declaration import BEYOND, BITS, NEAR, SUBNETS_MOST
 from votes import Votes, votes_of
 
 # An address is routed where so large a part of its packets has passed a router.
 ROUTED_PART = 0.9
 # The keys of a label for the addresses of a version, by how many bytes these have.
-KEYS = {4: ("addresses", "beyond"), 16: ("addresses6", "beyond6")}
+KEYS = {BITS[version] // 8: (near, beyond) for (near, version), beyond in zip(NEAR.items(), BEYOND)}
 # So many addresses are named in a comment.
 NAMED_MOST = 4
 

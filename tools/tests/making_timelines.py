@@ -2,7 +2,7 @@
 
 from making_logs import logs
 from records import Record
-from tracesync.numbers import UNITS
+from tracesync.numbers import UNITS, Interval
 from timeline import Event, Message, Timeline
 
 # How far each bar goes on both sides of its event, in ns.
@@ -22,7 +22,8 @@ def timeline(count: int, hosts: int, text: str = "") -> Timeline:
             found.events.append(Event(name, host, int(stamp), (int(stamp) - offset) * UNITS, told, told, record=record))
             ends.setdefault(key, {})[kind] = name
     found.events.sort(key=lambda it: it.time)
-    found.messages = [Message(it["send"], it["receive"]) for it in ends.values() if "send" in it and "receive" in it]
+    declared = Interval(UNITS, None)
+    found.messages = [Message(it["send"], it["receive"], declared=declared) for it in ends.values() if "send" in it and "receive" in it]
     base = found.events[0]
     since = {it.name: it.time - base.time for it in found.events}
     found.ends = {base.name: {name: (max(it - WIDTH * UNITS, 0), it + WIDTH * UNITS) for name, it in since.items()}}

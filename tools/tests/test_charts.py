@@ -5,11 +5,15 @@ import unittest
 from xml.etree import ElementTree
 
 import charts
+import delays
 import page
 import picture
 import timeline
+from common import EXAMPLES, PROGRAM
+from inputs import Input, open_input
+from own_program import RecordedSession
 from test_timeline import Replies, made
-from tracesync.numbers import UNITS
+from tracesync.numbers import UNITS, Interval
 
 EVIL = "<script>alert('1')</script>\"&"
 
@@ -67,7 +71,45 @@ class Delays(unittest.TestCase):
     def test_what_was_not_asked_and_what_has_no_greatest_is_told(self) -> None:
         found = many(5)
         found.messages[4].delay = None
-        self.assertEqual(charts.delay_panels(found)[0].title, f"a to {EVIL}: 4 of 5 messages, 1 of them without a greatest")
+        panel = charts.delay_panels(found)[0]
+        told = "4 were asked for (black), of the others it is what the times of their events leave"
+        self.assertEqual(panel.title, f"a to {EVIL}: 5 messages, 1 of them without a greatest; {told}")
+        self.assertEqual((len(panel.points), panel.exact), (5, panel.points[:4]))
+
+    def test_of_a_message_that_was_not_asked_for_the_times_of_its_events_and_what_is_declared_leave_something(self) -> None:
+        # (of the send's times, the receive's, and what is declared, both ends of each)
+        cases = (((0, 10), (100, 130), (0, None), (90, 130)), ((0, 10), (100, 130), (95, 120), (95, 120)), ((0, None), (100, 130), (7, None), (7, 130)),
+                 ((None, 10), (100, None), (0, None), (90, None)), ((None, None), (None, None), (3, 5), (3, 5)), ((0, 0), (9, 9), (None, None), (9, 9)))  # fmt: skip
+        for early, late, declared, wanted in cases:
+            found = timeline.Timeline(ends={"a#1": {"a#1": Interval(*early), "b#1": Interval(*late)}})
+            message = timeline.Message("a#1", "b#1", declared=Interval(*declared))
+            self.assertEqual(delays.Delays(found).around(message), wanted)
+
+    @unittest.skipUnless(PROGRAM, "no program is there")
+    def test_what_is_left_of_a_message_holds_what_the_program_replies(self) -> None:
+        inputs = [open_input(Input(it, it, f"{EXAMPLES}/captures/{it}.pcap")) for it in ("left", "right")]
+        session = RecordedSession(f"{EXAMPLES}/captures/by-left.toml", PROGRAM or "")
+        found = timeline.make_timeline(session, inputs, pairs=0, source="left")
+        left = delays.Delays(found)
+        self.assertEqual(len(found.messages), 56)
+        for it in found.messages:
+            (least, most), (early, late) = left.around(it), it.delay
+            self.assertTrue(0 < least <= early <= late <= most, it)
+
+    def test_times_by_the_source_leave_less(self) -> None:
+        found = many(1)
+        found.ends["a#1"] = {it.name: Interval(0, 10**15) for it in found.events}
+        for it in found.events:
+            it.source_time = Interval(it.time - 5, it.time + 7)
+        self.assertEqual(delays.Delays(found).around(found.messages[0]), (15_000 * UNITS - 12, 15_000 * UNITS + 12))
+
+    def test_messages_of_one_moment_have_ends_of_any_kind(self) -> None:
+        found = many(3)
+        for it, most in zip(found.messages, (None, 5, None)):
+            it.delay = Interval(0, most)
+        for it in found.events:
+            it.time = 7
+        self.assertEqual([point[2] for point in charts.delay_panels(found)[0].points], [None, 5, None])
 
     def test_a_histogram_counts_each_message_once_for_each_end(self) -> None:
         drawing = charts.Drawing(charts.delay_panels(many(5))[0], 0, 4 * 10**6 * UNITS)
@@ -77,7 +119,7 @@ class Delays(unittest.TestCase):
         panel = charts.Panel("x", "#000", [(0, 0, 100), (10, 50, None)])
         drawing = charts.Drawing(panel, 0, 10)
         drawing.low, drawing.high = 0, 200
-        self.assertIn("M92.0 174.0V99.0M90.0 174.0h4M90.0 99.0h4M980.0 136.5V24.0M978.0 136.5h4", drawing.bars()[0])
+        self.assertIn("M92.0 174.0V99.0M90.0 174.0h4M90.0 99.0h4M980.0 136.5V24.0M978.0 136.5h4", drawing.bars(panel.points, "#000", 1)[0])
 
 
 class Pictures(unittest.TestCase):
@@ -111,6 +153,17 @@ class Pictures(unittest.TestCase):
             found = charts.marks(first, last, 5, zero)
             self.assertTrue(0 < len(found) <= 6 and all(first <= at <= last for at, _ in found), found)
             self.assertEqual(len({text for _, text in found}), len(found))
+
+    def test_an_axis_far_from_its_first_event_counts_from_a_time_near_it(self) -> None:
+        found = many(40)
+        for at, it in enumerate(found.events):
+            it.time = 86_400 * 10**18 + at * UNITS
+        drawn = charts.offset_chart(found)
+        self.assertIn("time in the earliest execution, ns from 86400.00000004 s", texts(drawn))
+        boxes = [(float(x), float(y), len(text)) for x, y, text in re.findall(r'<text x="([\d.]+)" y="(190)" text-anchor="middle" fill="#666">([^<]*)<', drawn)]
+        self.assertGreater(len(boxes), 4)
+        for (left, _, one), (right, _, other) in zip(boxes, boxes[1:]):
+            self.assertLess(left + one * charts.LETTER / 2, right - other * charts.LETTER / 2)
 
     def test_marks_of_a_timeline_far_from_its_first_event_differ(self) -> None:
         found = many(40)

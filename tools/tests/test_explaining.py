@@ -92,9 +92,9 @@ class Replies(unittest.TestCase):
     def test_refusals_by_the_line(self) -> None:
         cases = (
             ("", "20", "the line is empty"), ("# a", "20", "comments"), ("merge ", "20", "blank too many"), ("merge\r", "20", "carriage return"), ("Merge", "20", "merge is"),
-            ("add a my file", "20", "a path has no blanks"), ("order a#1", "20", "2 words"), ("times a#1 b#1", "20", "1 words"), ("times a#01", "28", "not of the form"), ("times", "29", "no source is declared"), ("add web x", "21", "no label web is declared; there are left, right"),
+            ("add a my file", "20", "a path has no blanks"), ("order a#1", "20", "2 words"), ("times a#1 b#1", "20", "one word behind it, or none, and here are 2"), ("times a#01", "28", "not of the form"), ("times", "29", "no source is declared"), ("add web x", "21", "no label web is declared; there are left, right"),
             ("add a nosuch", "22", "there is no file nosuch"), ("add a ~/x", "22", "no quotes"), ("merge\udcff", "20", "`merge?` is no command"), ("add a \udcff", "20", "a byte that is not plain ASCII"), (f"add a {EXAMPLES}", "22", "is a folder"), ("order a#01 b#1", "28", "not of the form"),
-            ("order x#1 left#1", "28", "no label x is declared"), ("time left#1", "29", "no source is declared"), ("keep left#1", "30", "eight events"), ("add a x", "27", "2,097,152"),
+            ("order x#1 left#1", "28", "no label x is declared"), ("time left#1", "29", "no source is declared"), ("keep left#1", "30", "eight events"), ("add a x", "27", "16,777,216"),
         )  # fmt: skip
         for line, number, wanted in cases:
             self.assertIn(wanted, self.told(line, f"refused {number}", declaration=DECLARED), line)
@@ -132,6 +132,12 @@ class Replies(unittest.TestCase):
 
     def test_a_problem_with_clocks_that_follow(self) -> None:
         self.assertEqual(self.told("problem", FOLLOWED), "all that is declared and known: 2 clocks, 1 follow, 2 events, 1 message")
+
+    def test_a_smaller_problem_is_not_taken_for_the_whole_one(self) -> None:
+        explainer = Explainer()
+        explainer.reply("problem", FOLLOWED.split("\n"))
+        told = explainer.reply("thin a#1", ["problem 1", "end"]).words
+        self.assertEqual((told, explainer.problem), (["what implies all the rest of it: 0 clocks, 0 events, 0 messages"], FOLLOWED.split("\n")))
 
 
 class Contradictions(unittest.TestCase):

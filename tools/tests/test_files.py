@@ -75,7 +75,7 @@ class Own(Room):
 class Declaring(Room):
     def making(self) -> Making:
         names = ("declaration", "source", "reference", "pairs", *OUTPUTS)
-        said = Namespace(**dict.fromkeys(names), folder=self.room, look=False, program="true", chrony=[], chosen=[], proved=[], delays=1, events=1, files=[])
+        said = Namespace(**dict.fromkeys(names), folder=self.room, look=False, program="true", chrony=[], chosen=[], proved=[], delays=1, events=1, page=1, files=[])
         return Making(said)
 
     def declare(self) -> None:

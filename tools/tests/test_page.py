@@ -50,9 +50,9 @@ class Tags(HTMLParser):
         self.texts.append(data)
 
 
-def run_page(found: timeline.Timeline, hash_text: str = "", told: str = MARKS) -> dict[str, Any]:
-    """Returns what a text, which is run behind the page's script, prints as JSON."""
-    script = re.search(r"<script>(.*)</script>", page.page(found, "A page"), re.S)[1]
+def run_page(found: timeline.Timeline, hash_text: str = "", told: str = MARKS, **part: Any) -> Any:
+    """Returns what a text, which is run behind the page's script, prints as JSON; `part` says which events the page has."""
+    script = re.search(r"<script>(.*)</script>", page.page(found, "A page", **part), re.S)[1]
     ran = subprocess.run(["node", "-"], input=script.replace('"use strict";', STUB.replace("HASH", hash_text)) + told, capture_output=True, text=True)
     if ran.returncode:
         raise AssertionError(ran.stderr)

@@ -45,6 +45,11 @@ class Recorded(unittest.TestCase):
             with open(page if os.path.exists(page) else os.devnull, encoding="utf-8") as it:
                 return ran.returncode, ran.stdout + ran.stderr, it.read()
 
+    def test_a_page_of_a_part_says_so(self) -> None:
+        status, said, page = self.timeline({}, (A, B), "--page", "2")
+        told = "the page has events 1 to 2 of 5, and clocks and delays of all; --from EVENT makes one around another event, --page N one of N"
+        self.assertEqual((status, said.count(f"Note: {told}."), page.count(told)), (0, 1, 1), said)
+
     def test_a_timeline_with_messages_is_status_0(self) -> None:
         status, said, page = self.timeline({}, (A, B), "--prove", "b#1,a#2")
         self.assertEqual((status, "2 messages among 5 events." in said), (0, True), said)
