@@ -22,7 +22,7 @@ __all__ = [
 
 BENCH, OUT = f"{TOP}/bench", f"{TOP}/bench/out"
 # The most events that a problem or a session may have.
-MOST_EVENTS = 2**21
+MOST_EVENTS = 2**24
 
 
 def fail(why: str) -> None:

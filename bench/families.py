@@ -23,7 +23,7 @@ from support.captures import classic, frame
 
 # The words of a command, and the name of its script.
 Words = tuple[list[str], str]
-# How many steps a certificate may have at most.
+# How many steps the longest certificate has: one of 2^26, which are lawful, would be 2.6 GB.
 MOST_STEPS = 1 << 23
 # What a command prints that shows no fault, where it does not end with status 0.
 SHOWN = b"no cycle join 1\n"

@@ -26,7 +26,7 @@ from typing import TextIO
 
 CLOCKS = 8
 ALONE = 10
-MOST_EVENTS = 2**21
+MOST_EVENTS = 2**24
 DRIFT = 20_000
 FAST = 200_000
 NEAR = 1_100
@@ -164,7 +164,7 @@ FORMS = (
 
 def arguments() -> argparse.ArgumentParser:
     parser = argparse.ArgumentParser(description=__doc__.split("\n\n")[0])
-    count = "the number of events, even, from 2 to 2^21; of messages if --one-way or --drift"
+    count = "the number of events, even, from 2 to 2^24; of messages if --one-way or --drift"
     parser.add_argument("count", metavar="N", type=int, help=count)
     parser.add_argument("folder", metavar="FOLDER", help="where N.problem and N.execution are written")
     forms = parser.add_mutually_exclusive_group()
@@ -185,7 +185,7 @@ def main() -> None:
         trace, delays = generate_one_way(said.count, said.alone, fast, most)
     else:
         if said.count % 2 != 0 or not 2 <= said.count <= MOST_EVENTS:
-            parser.error("an even number of events from 2 to 2^21")
+            parser.error("an even number of events from 2 to 2^24")
         trace, delays = generate(said.count)
     suffix = "" if said.form in (None, "problem") else f"-{said.form}"
     stem = os.path.join(said.folder, f"{said.count}{suffix}")

@@ -15,7 +15,7 @@ With no PARTs all of these, over the logs of eight hosts that send messages to o
     downward      rows that come downward by stamp, within a piece or piece by piece
 
 The first five are measured at each of the sizes, 1,000, 10,000, 100,000 and 1,000,000 events if none are named; the
-limit of a session is 2^21. `labels` and `downward` are measured at so many events as those options say, at twice and
+limit of a session is 2^24. `labels` and `downward` are measured at so many events as those options say, at twice and
 at four times as many. PROGRAM names the program, else it is the one that is built here; PATH a second one, whose
 figures stand beside. Each figure is the least of N runs, 3 if it is not said, and a run has many additions or
 questions where they are short; a figure that has taken --limit seconds, 10 if it is not said, takes no further run. A

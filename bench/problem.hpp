@@ -28,10 +28,10 @@ using Units = __int128;
 
 constexpr std::uint64_t UNITS_OF_A_NS = 1'000'000'000;
 constexpr std::uint64_t NANO_LIMIT = std::uint64_t{1} << 62;
-constexpr std::uint64_t TEXT_LIMIT = std::uint64_t{1} << 31;
+constexpr std::uint64_t TEXT_LIMIT = std::uint64_t{1} << 34;
 constexpr std::size_t CLOCK_LIMIT = 65'536;
-constexpr std::size_t EVENT_LIMIT = 1 << 21;
-constexpr std::size_t MESSAGE_LIMIT = 1 << 21;
+constexpr std::size_t EVENT_LIMIT = 1 << 24;
+constexpr std::size_t MESSAGE_LIMIT = 1 << 24;
 
 enum class Cause { Syntax = 1, Name, Range, Limit, Long };
 

@@ -106,7 +106,7 @@ def main() -> None:
     sizes = said.sizes or kind.sizes
     for size in sizes:
         if kind.least is not None and (size % 2 or not kind.least <= size <= MOST_EVENTS):
-            parser.error(f"{size} is no even number from {kind.least} to 2^21")
+            parser.error(f"{size} is no even number from {kind.least} to 2^24")
     if said.runs < 1:
         parser.error("one run at least")
     bench = kind.made(said)

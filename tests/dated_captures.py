@@ -5,7 +5,9 @@
 
 Each packet must stand there once, in the order of the reply to `merge` of a session over the same script, with both its
 lengths, under the interface of its label and its link type, with a comment that names its event and the stamp of that
-in the session's problem; an interface has its label's name, its host, its clock and the bounds of that, and counts ns.
+in the session's problem, and has the line of that event in the session's reply to `times` since the event that is named
+behind `pcapng`, or where none is since the first one; an interface has its label's name, its host, its clock and the
+bounds of that, and counts ns.
 A stamp must be the date that the session gives: that of the first event, by `time` where its clock's source tells it
 and else by its own stamp, and what `merge` has between the two, rounded down to ns. Where capinfos and tshark are
 installed, they must count, stamp and comment the packets in the same way. PROGRAM names the program, else it is the one
@@ -157,6 +159,14 @@ def stamps_of(declaration: str, lines: Sequence[str]) -> dict[str, int]:
     return {name: int(stamp) for _, name, _, stamp, *_ in events}
 
 
+def ends_of(declaration: str, lines: Sequence[str], since: str) -> dict[str, str]:
+    """How long after an event each one was, as the reply of a session to `times` has it."""
+    told = answered(declaration, [*lines, f"times {since}"])[-1]
+    assert told[0] == f"times {len(told) - 1}", told[0]
+    ends = [line.split(" ") for line in told[1:]]
+    return {name: f"{least} to {greatest} ns" for name, least, greatest in ends}
+
+
 def start_of(declaration: str, lines: Sequence[str], first: str, stamp: int) -> Fraction:
     """The date of the first event in ns: the least end of its time by the source, or its own stamp."""
     words = answered(declaration, [*lines, f"time {first}"])[-1][0].split(" ")
@@ -165,10 +175,18 @@ def start_of(declaration: str, lines: Sequence[str], first: str, stamp: int) -> 
     return Fraction(stamp)
 
 
-def merges(folder: str, case: str, declaration: str, lines: Sequence[str], is_shown: bool = True) -> None:
-    """Wants the file of these additions, which the tools of Wireshark show or not. Raises AssertionError where it is
-    otherwise."""
-    done = subprocess.run([program(), "mergecap", declaration, "pcapng"], input=script_of(lines), capture_output=True)
+def dated(declaration: str, lines: Sequence[str], event: Sequence[str] = ()) -> subprocess.CompletedProcess[bytes]:
+    """A run over these additions, with the name of an event or without."""
+    words = [program(), "mergecap", declaration, "pcapng", *event]
+    return subprocess.run(words, input=script_of(lines), capture_output=True)
+
+
+def merges(
+    folder: str, case: str, declaration: str, lines: Sequence[str], *event: str, is_shown: bool = True
+) -> None:
+    """Wants the file of these additions, since an event or since the first one, which the tools of Wireshark show or
+    not. Raises AssertionError where it is otherwise."""
+    done = dated(declaration, lines, event)
     assert done.returncode == 0, (case, done.returncode, done.stdout[:80])
     merged = [line.split(" ") for line in answered(declaration, [*lines, "merge"])[-1][1:]]
     times = {event: Fraction(time) for time, event, *_ in merged}
@@ -182,15 +200,16 @@ def merges(folder: str, case: str, declaration: str, lines: Sequence[str], is_sh
     under = {event: (event.split("#")[0], packets[event].link) for event in order}
     taps = sorted(set(under.values()))
     interfaces, written = file_of(done.stdout)
-    said = {event: {1: f"tracesync {event} stamp {stamps[event]}".encode()} for event in order}
-    wanted = [
-        Written(taps.index(under[event]), (times[event] + shift) // 1, packets[event], said[event]) for event in order
-    ]
+    since = event[0] if event else first
+    ends = ends_of(declaration, lines, since)
+    said = {it: {1: f"tracesync {it} stamp {stamps[it]} since {since} {ends[it]}".encode()} for it in order}
+    wanted = [Written(taps.index(under[it]), (times[it] + shift) // 1, packets[it], said[it]) for it in order]
     assert written == wanted, (case, "other packets", written[:2], wanted[:2])
     assert interfaces == [described(declaration, *tap) for tap in taps], (case, interfaces)
     if is_shown:
         read_again(case, write(f"{folder}/merged.pcapng", done.stdout), written)
-    print(f"{case}: {len(written)} packets under {len(interfaces)} interfaces, from {written[0].stamp} ns on")
+    begin = f"from {written[0].stamp} ns on, since {since}"
+    print(f"{case}: {len(written)} packets under {len(interfaces)} interfaces, {begin}")
 
 
 def read_again(case: str, path: str, written: Sequence[Written]) -> None:
@@ -208,11 +227,11 @@ def read_again(case: str, path: str, written: Sequence[Written]) -> None:
     assert told.splitlines() == lines, (case, "tshark reads something else")
 
 
-def no_file(case: str, declaration: str, lines: Sequence[str], wanted: str, status: int = 12) -> None:
-    """Wants this line in place of a file."""
-    done = subprocess.run([program(), "mergecap", declaration, "pcapng"], input=script_of(lines), capture_output=True)
-    assert (done.stdout, done.returncode) == (f"{wanted}\n".encode(), status), (case, done)
-    print(f"{case}: `{wanted}`, status {status}")
+def no_file(case: str, declaration: str, lines: Sequence[str], wanted: str, *event: str) -> None:
+    """Wants this line in place of a file, with status 12."""
+    done = dated(declaration, lines, event)
+    assert (done.stdout, done.returncode) == (f"{wanted}\n".encode(), 12), (case, done)
+    print(f"{case}: `{wanted}`, status 12")
 
 
 def empty(folder: str, stamps: Sequence[int]) -> str:
@@ -249,14 +268,31 @@ def cases(folder: str) -> None:
     merges(folder, "stamps of 0 and of 2^62 ns less 1", plain, [f"add left {empty(folder, [0, 2**62 - 1])}"])
     one = write(f"{folder}/one", blocks([(5, frame(1, 2, b"a"))]))
     merges(folder, "one packet", plain, [f"add left {one}"])
+    merges(folder, "one packet, since itself", plain, [f"add left {one}"], "left#1")
+    merges(folder, "captures, since an event in the middle", HOSTS, [LEFT, RIGHT], "right#7")
+    merges(folder, "two link types, since the last event", f"{EXAMPLES}/dual/hosts.toml", DUAL, "right#5")
+    apart = write(f"{folder}/apart.toml", PLAIN + PLAIN.replace("left", "right"))
+    two = [f"add left {one}", f"add right {one}"]
+    merges(folder, "hosts that no message joins", apart, two)
+    merges(folder, "hosts that no message joins, since the other", apart, two, "right#1")
+    logged = write(f"{folder}/logged.toml", PLAIN + '[labels.log]\nhost = "left"\nkind = "log"\n')
+    rows = write(f"{folder}/rows.csv", b"1,local,,note\n9,local,,note\n")
+    merges(folder, "a log's event first", logged, [f"add left {one}", f"add log {rows}"])
+    merges(folder, "since a log's event", logged, [f"add left {one}", f"add log {rows}"], "log#2")
     merges(folder, "a date of 2^64 ns less 1", *chain(folder, 3), is_shown=False)
     no_file("a date of 2^64 ns", *chain(folder, 4), "range")
+    no_file("a date of 2^64 ns, since an event", *chain(folder, 4), "range", "h4#1")
+    no_file("a date of 2^64 ns, since no event", *chain(folder, 4), "refused 28", "h4#2")
+    no_file("no event of the name", HOSTS, [LEFT, RIGHT], "refused 28", "right#99")
+    no_file("no event at all, and a name", plain, [], "refused 28", "left#1")
+    no_file("a name, and a line that is no addition", plain, ["merge"], "refused 20", "left#1")
     done = subprocess.run([program(), "mergecap", plain, "pcapng"], input=b"", capture_output=True)
     assert (done.stdout, done.returncode) == (SECTION, 0), done
     print("no line: a section alone")
     no_file("a line that is no addition", plain, ["merge"], "refused 20")
     far = read(HOSTS).decode().replace("least = 1", "least = 1_000_000")
     no_file("a cable of 300 km", write(f"{folder}/far.toml", far), [LEFT, RIGHT], "inconsistent")
+    no_file("a cable of 300 km, and no event of the name", f"{folder}/far.toml", [LEFT, RIGHT], "inconsistent", "none")
     done = subprocess.run([program(), "mergecap", plain, "pcap"], input=b"", capture_output=True)
     assert done.returncode == 2 and done.stdout.startswith(b"usage"), done
     print("another format: usage")

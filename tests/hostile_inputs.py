@@ -122,6 +122,7 @@ keep one#1
 times one#1
 problem
 report
+thin two#1 one#2
 """
 SCRIPT = (
     f"add one one.log\nadd two two.log\n{QUESTIONS}add left left.pcap\nadd right right.pcap\n"
@@ -353,7 +354,7 @@ def large_answers() -> Iterator[tuple[str, str, str]]:
     times = "".join(f"event e{it:x} {it}.000000000\n" for it in range(MANY))
     yield "execution", "many events", f"execution 1\n{times}end\n"
     yield "execution", "one long number", f"execution 1\nevent a#1 {'9' * (1 << 22)}.000000000\nend\n"
-    for title, count in (("2^18 steps", 1 << 18), ("2^22 steps", 1 << 22), ("one step too many", (1 << 22) + 1)):
+    for title, count in (("2^18 steps", 1 << 18), ("2^22 steps", 1 << 22)):
         yield "certificate", title, "certificate 1\ncycle\n" + STEP * count + "end\n"
     inside = "".join(f"inside c{it:x}\n" for it in range(MANY))
     yield "certificate", "many inside", f"certificate 1\nends a#1 b#1\nleast none\n{inside}end\n"
@@ -377,7 +378,7 @@ def large_logs() -> Iterator[tuple[str, bytes]]:
     yield "commas", b"," * (1 << 24)
     yield "one quoted field", b'"' + b"x" * (1 << 24)
     yield "empty lines", b"\n" * (1 << 24)
-    yield "more rows than fit", b"1,local,,\n" * ((1 << 21) + 1)
+    yield "more rows than fit", b"1,local,,\n" * ((1 << 24) + 1)
 
 
 def large_captures() -> Iterator[tuple[str, bytes]]:

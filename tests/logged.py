@@ -40,7 +40,6 @@ from support.places import FIRST, HOST, LABEL, LEAST, LINK, RATES, STAMPS, ether
 from support.problems import UNITS, is_outside, units_of
 from support.program import LEFT, TOP, program, write
 from support.replies import answered
-from support.spaces import Record
 
 # What the clock of `b` may be off, in ns and in parts per billion.
 MOST_OFFSET, MOST_RATE = 4 * 3600 * 10**9, 40_000

@@ -141,8 +141,8 @@ for said, later in (("b#1 10.", "b#1 21."), ("250 10.", "250 21."), ("b#2 60.", 
     BROKEN = BROKEN.replace(said, later)
 USAGE = (
     "usage: tracesync obey PROBLEM EXEC | solve PROBLEM | ends PROBLEM P Q | verify PROBLEM CERT | session DECL"
-    " | trial N | widen PROBLEM WHAT.. | judge PROBLEM WIDENING | blame PROBLEM | thin PROBLEM P.. | mergecap DECL [pcapng]"
-    " | --help | --version\n"
+    " | trial N | widen PROBLEM WHAT.. | judge PROBLEM WIDENING | blame PROBLEM | thin PROBLEM P.."
+    " | mergecap DECL [pcapng [EVENT]] | --help | --version\n"
 )
 with open(f"{TOP}/crates/commands/src/help.rt", encoding="utf-8") as source:
     HELP = source.read().split('HELP: &[u8] = br"', 1)[1].split('\n";', 1)[0] + "\n"

@@ -6,11 +6,12 @@ says.
 
 CONTRADICTIONS, 300 if it is not said, are made from the numbers from SEED, 1 if it is not said, upward; a number whose
 problem has an execution is passed over, once `blame` says so. Each has two or three clocks, of which some follow each
-other, and a few events and messages, some problems with bounds of each event, with numbers so small that the least widening of most candidates is, too. The
-reference is the plainest there is: the problem's text with the numbers of a candidate greater, or less, by 0, 1, 2 and
-so on, and the earliest values over its bounds; beyond 400 what is left is halved. `judge` must say yes to what `widen`
-prints, and no to another number. Every fourth problem is also made logs and a declaration of, and the session's `blame`
-must be what is true, in the same way, of the text that its `problem` prints.
+other, and a few events and messages, some problems with bounds of each event, with numbers so small that the least
+widening of most candidates is, too. The reference is the plainest there is: the problem's text with the numbers of a
+candidate greater, or less, by 0, 1, 2 and so on, and the earliest values over its bounds; beyond 400 what is left is
+halved. `judge` must say yes to what `widen` prints, and no to another number. Every fourth problem is also made logs
+and a declaration of, and the session's `blame` must be what is true, in the same way, of the text that its `problem`
+prints.
 
 PROGRAM names the program, else it is the one that is built here. The files of a problem that goes wrong stay in
 tests/out/blames-N; then the status is 1.

@@ -6,15 +6,16 @@
 SESSIONS, 200 if it is not said, have the numbers from SEED, 1 if it is not said, upward; `random_sessions.py 1 N`
 runs number N alone. Each has up to four hosts with logs of one label and more, which sort otherwise than their hosts;
 some hosts have up to four clocks, one after the other, and their labels name them or not; in some declarations labels
-have bounds of their own, and half have a window, and offsets that are about true or not. Rows come late, with lower stamps, with stamps that contradict the
-declared bounds, and with keys that were sent or received before, which withdraws messages; events are kept in between.
-Behind each addition the problem must be the one that a plain model of the session has, and what is asked must follow
-from its text: intervals, orders, times, those of all events too, and merges as support/problems.py works them out, and,
-one of each, as `ends` and `solve` print them; `blame` is `blame none` where the problem has an execution, and else what the command `blame`
-prints of the text; certificates must be accepted by `verify`, and cycles also by check_cycle.py.
+have bounds of their own, and half have a window, and offsets that are about true or not. Rows come late, with lower
+stamps, with stamps that contradict the declared bounds, and with keys that were sent or received before, which
+withdraws messages; events are kept in between. Behind each addition the problem must be the one that a plain model of
+the session has, and what is asked must follow from its text: intervals, orders, times, those of all events too, and
+merges as support/problems.py works them out, and, one of each, as `ends` and `solve` print them; `blame` is
+`blame none` where the problem has an execution, and else what the command `blame` prints of the text, and `thin` is
+what the command prints; certificates must be accepted by `verify`, and cycles also by check_cycle.py.
 
 PROGRAM names the program whose sessions are tried, else it is the one that is built here; PATH is another one for
-`ends`, `solve`, `blame` and `verify`. The files of a session that goes wrong stay in tests/out/session-N, and its first
+`ends`, `solve`, `blame`, `thin` and `verify`. The files of a session that goes wrong stay in tests/out/session-N, and its first
 wrong reply is printed; then the status is 1.
 """
 
@@ -409,6 +410,8 @@ class State:
             want(line, reply, ["blame none"] if self.earliest is not None else self.judged("blame"))
         elif refusal:
             want(line, reply, [refusal])
+        elif command == "thin":
+            want(line, reply, self.judged("thin", *events))
         elif self.earliest is None:
             self.check_contradiction(line, reply)
         else:
@@ -504,6 +507,7 @@ def questions(draw: Random, names: list[str], kept: list[str]) -> list[str]:
     lines += [f"prove {one} {other}" for one, other in draw.sample(pairs, 2)]
     lines += [f"time {draw.choice(names)}" for _ in range(3)] + ["times", f"times {draw.choice(kept or names)}"]
     lines += [f"times {draw.choice(names)}", "merge", "report", "blame"]
+    lines += [" ".join(["thin", *draw.choices(names, k=draw.randrange(4))])]
     return draw.sample(lines, draw.randint(1, len(lines)))
 
 
@@ -585,7 +589,7 @@ def leave(number: int, folder: str, why: Exception) -> None:
 
 def main() -> int:
     parser = argparse.ArgumentParser(description=__doc__.split("\n\n")[0])
-    parser.add_argument("--judge", metavar="PATH", help="another program for `ends`, `solve`, `blame` and `verify`")
+    parser.add_argument("--judge", metavar="PATH", help="another program for `ends`, `solve`, `blame`, `thin` and `verify`")
     parser.add_argument("sessions", metavar="SESSIONS", nargs="?", type=int, default=200, help="how many sessions; 200")
     parser.add_argument("seed", metavar="SEED", nargs="?", type=int, default=1, help="the number of the first; 1")
     said = parser.parse_args()

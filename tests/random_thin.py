@@ -10,6 +10,8 @@ events have bounds of their own. The reference is the plainest there is: all bou
 that is printed, and the greatest differences over them. No message may stay that another one implies, but for those
 of events that are asked about, that have several messages, or that stay for a follow.
 
+Every third problem is that of a session over logs, whose line `thin` must reply what the command prints of it.
+
 PROGRAM names the program, else it is the one that is built here. The files of a problem that goes wrong stay in
 tests/out/thin-N; then the status is 1.
 """
@@ -24,6 +26,7 @@ from typing import NamedTuple
 
 from support.problems import UNITS, Answers, Problem
 from support.program import LEFT, program, write
+from support.replies import answered
 
 Lines = list[str]
 Pair = tuple[str, str]
@@ -56,6 +59,42 @@ def drawn(draw: Random) -> tuple[Lines, Lines]:
     return [f"problem {version}", *head, *events, *messages, "end"], asked
 
 
+def drawn_session(draw: Random, folder: str) -> Lines:
+    """Writes a declaration and logs, and returns the script that adds these."""
+    hosts = ["a", "b", "c"][: draw.choice((2, 2, 3))]
+    declared: Lines = []
+    for host in hosts:
+        declared += [f"[hosts.{host}]", *(f"{it} = {drawn_rate(draw)}" for it in ("short", "long"))]
+        declared += [f"{it} = {draw.randrange(4)}" for it in ("early", "late")]
+        declared += [f"[labels.{host}]", f'host = "{host}"', 'kind = "log"']
+    links = [(a, b) for a in hosts for b in hosts if a != b]
+    for sender, receiver in links:
+        declared += ["[[links]]", f'from = "{sender}"', f'to = "{receiver}"', f"least = {draw.randrange(3)}"]
+        declared += draw.choice(([], ["most = 40"]))
+    write(f"{folder}/hosts.toml", "".join(f"{it}\n" for it in declared))
+    logs: dict[str, Lines] = {host: [] for host in hosts}
+    for number in range(draw.randrange(14)):
+        sender, receiver = draw.choice(links)
+        sent = draw.randrange(200)
+        logs[sender].append(f"{sent},send,m{number},")
+        logs[receiver].append(f"{max(0, sent + draw.randrange(-2, 30))},receive,m{number},")
+    for host, rows in logs.items():
+        write(f"{folder}/{host}.csv", "".join(f"{it}\n" for it in rows))
+    return [f"add {host} {host}.csv" for host in hosts]
+
+
+def check_session(draw: Random, folder: str) -> tuple[Lines, Lines]:
+    """Wants a session to reply to `thin` what the command prints of its problem, and returns this, and which events are asked about."""
+    script = drawn_session(draw, folder)
+    lines = answered("hosts.toml", [*script, "problem"], folder)[-1]
+    names = [it.split(" ")[1] for it in lines if it.startswith("event ")]
+    asked = draw.choices(names, k=draw.randrange(4)) if names else []
+    reply = answered("hosts.toml", [*script, " ".join(["thin", *asked])], folder)[-1]
+    wanted = thinned(write(f"{folder}/problem.txt", "".join(f"{it}\n" for it in lines)), asked)
+    assert reply == wanted, f"the session replies {reply}, and the command prints {wanted}"
+    return lines, asked
+
+
 def drawn_rate(draw: Random) -> int:
     return draw.choice((0, 0, 10_000_000, draw.randrange(100_000_000)))
 
@@ -80,8 +119,8 @@ def check_ends(whole: Answers, small: Answers) -> None:
 
 
 class Sent(NamedTuple):
-    """A message by its events, with all that two messages must have alike, so that one can imply the other, its coordinates,
-    and when it was received and sent."""
+    """A message by its events, with all that two messages must have alike, so that one can imply the other, its
+    coordinates, and when it was received and sent."""
 
     ends: Pair
     alike: tuple[object, ...]
@@ -106,20 +145,31 @@ def sent_in(problem: Problem, lines: Lines) -> list[Sent]:
 
 
 def is_implied(one: Sent, sent: list[Sent], has_most: bool) -> bool:
-    """Whether other messages imply one; of two that imply each other, that the other one was received before it, or sent before."""
+    """Whether other messages imply one; of two that imply each other, that the other one was received before it, or
+    sent before."""
     others = [it for it in sent if it.stamps != one.stamps]
     fast = any(it.is_as_fast_as(one) and (not one.is_as_fast_as(it) or it.stamps < one.stamps) for it in others)
     slow = any(one.is_as_fast_as(it) and (not it.is_as_fast_as(one) or it.stamps < one.stamps) for it in others)
     return fast and (slow or not has_most)
 
 
+def held_by_follows(problem: Problem) -> set[str]:
+    """The events with the last reading of each clock that another one follows, and with the first of each that follows."""
+    held = set()
+    for later, (earlier, _) in problem.follows.items():
+        for clock, edge in ((earlier, max), (later, min)):
+            stamps = {name: stamp for name, (own, stamp) in problem.events.items() if own == clock}
+            held |= {name for name, stamp in stamps.items() if stamp == edge(stamps.values())}
+    return held
+
+
 def check_size(problem: Problem, lines: Lines, kept: Problem, asked: Lines) -> None:
     """Wants no message to be left that others imply, but for those that have to stay."""
     sent = sent_in(problem, lines)
     uses = [it for ends in problem.messages for it in ends]
-    edges = {clock for later, (earlier, _) in problem.follows.items() for clock in (earlier, later)}
+    held = held_by_follows(problem)
     for one in sent:
-        must = any(it in asked or uses.count(it) > 1 or problem.events[it][0] in edges for it in one.ends)
+        must = any(it in asked or uses.count(it) > 1 or it in held for it in one.ends)
         if one.ends in kept.messages and not must:
             assert not is_implied(one, sent, problem.messages[one.ends][1] is not None), f"{one.ends} is implied, and is left"
 
@@ -131,7 +181,8 @@ def check(lines: Lines, asked: Lines, folder: str) -> tuple[int, int, bool]:
     write(f"{folder}/thinned.txt", "".join(f"{it}\n" for it in text))
     whole, small = Answers(lines), Answers(text)
     assert set(asked) <= {*small.problem.events}, f"asked about {asked}, and not all are left"
-    assert {it for it in text if it.startswith(("event ", "clock ", "follow "))} <= {*lines}, "a line is new"
+    rest = iter(lines[1:])
+    assert all(it in rest for it in text[1:]), "a line is new, or stands elsewhere"
     assert [it for it in text if it.startswith(("clock ", "follow "))] == [it for it in lines if it.startswith(("clock ", "follow "))]
     has_execution = whole.earliest() is not None
     assert (small.earliest() is not None) == has_execution, "one of the two has an execution"
@@ -151,8 +202,10 @@ def main() -> int:
         lines, asked = drawn(Random(number))
         with tempfile.TemporaryDirectory(prefix="thin-") as folder:
             try:
+                if number % 3 == 0:
+                    lines, asked = check_session(Random(number), folder)
                 had, has, has_execution = check(lines, asked, folder)
-            except AssertionError as why:
+            except (AssertionError, RuntimeError) as why:
                 kept = f"{LEFT}/thin-{number}"
                 shutil.rmtree(kept, ignore_errors=True)
                 shutil.copytree(folder, kept)

@@ -124,9 +124,6 @@ def captured(network: Cables, case: Case, draw: Random) -> Taken:
     return taken
 
 
-# What is declared.
-
-
 def true_pairs(session: Session, taken: Taken) -> list[tuple[str, str]]:
     """The events of each two records of one packet that are to be a message."""
 

@@ -47,11 +47,11 @@ COMMANDS: list[tuple[list[str], str | None]] = [
 
 QUESTIONS = [
     "interval a#1 b#1", "order a#1 b#1", "merge", "problem", "prove a#1 b#1", "report", "time a#1", "times", "times b#1",
-    "blame",
+    "blame", "thin", "thin a#1 b#1",
 ]  # fmt: skip
 CLOCK_QUESTIONS = [
     "interval before#1 after#1", "order before#3 after#2", "merge", "problem", "prove before#3 after#1", "report",
-    "time after#3", "times", "times gate#2", "blame",
+    "time after#3", "times", "times gate#2", "blame", "thin before#3",
 ]  # fmt: skip
 
 Files = dict[str, bytes]  # the files of a session by their names

@@ -244,7 +244,8 @@ class Declared:
         return self.segments[one] == self.segments[other]
 
     def bounds_of(self, label: str) -> tuple[int, ...]:
-        """How many ns events of a label lie before and behind their stamps, where one label or more says it; else nothing."""
+        """How many ns events of a label lie before and behind their stamps, where one label or more says it; else
+        nothing."""
         own = self.bounds[label]
         clock = dict(zip(RATES, self.clocks[self.labels[label][2]]))
         return tuple(own.get(it, clock[it]) for it in STAMP_KEYS) if any(self.bounds.values()) else ()
