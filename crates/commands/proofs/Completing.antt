@@ -304,7 +304,7 @@ module _ (files files' : FilesTold) (input input' : SourceTold) (out out' : Sink
 
   -- the same with dates
   dated_over_goes : (d : Declaration) (name : Option (List ℕ)) → IsSomeAnd input.left (λ bytes. length bytes ≤ most_taken) → (status : Status) (text : List ℕ) → DatedOver d name (reads files input) (reads files' input') status text → IsAnswered status
-  dated_over_goes d name short status text (inl (ordered, taps, shift, since, each, merges, written, back, only)) = inl only.0
+  dated_over_goes d name short status text (inl (ordered, taps, shift, since, each, merges, dated, written, back, only)) = inl only.0
   dated_over_goes d name short status text (inr (whys.Refused said, not, tells)) = inr (inr (inr tells.0))
   dated_over_goes d name short status text (inr (whys.Size, not, tells)) = inr (inr (inr tells.0))
   dated_over_goes d name short status text (inr (whys.Inconsistent, not, tells)) = inr (inr (inr tells.0))

@@ -10,7 +10,7 @@ use Rattle.intervals.specs.declared.ends.Ends.{Ends}
 use Rattle.traces.specs.declared.event_id.EventId.{EventId}
 use Rattle.merged_blocks.specs.declared.since.MergedPackets.{MergedPackets}
 use Rattle.merged_blocks.specs.declared.taps.Tap.{Tap}
-use Rattle.merged_blocks.specs.Ready.{IsFileReadBack, file_of}
+use Rattle.merged_blocks.specs.Ready.{AreReady, IsFileReadBack, file_of}
 use Rattle.session.specs.Script.{Devices}
 use Rattle.merge_script.specs.declared.unmerged.Unmerged.{Unmerged}
 use Rattle.merge_script.specs.declared.unmerged.Unmerged.TheVariants as whys
@@ -44,7 +44,7 @@ module _ (d : Declaration) (files begun after : FilesTold) (input input' : Sourc
   undated_since name whys.Memory is = tt
 
   over_since : (name : Option (List ℕ)) (status : Status) (text : List ℕ) → DatedOver d name (reads begun input) (reads after input') status text → DatedOver d name (reads files input) (reads after input') status text
-  over_since name status text (inl (ordered, taps, shift, since, each, is, written, back, only)) = inl (ordered, taps, shift, since, each, dated_since name ordered taps shift since each is, written, back, only)
+  over_since name status text (inl (ordered, taps, shift, since, each, is, dated, written, back, only)) = inl (ordered, taps, shift, since, each, dated_since name ordered taps shift since each is, dated, written, back, only)
   over_since name status text (inr (why, is, tells)) = inr (why, undated_since name why is, tells)
 
   module _ (path : List ℕ) (declared : IsDeclaredAt files.content path d) where
@@ -68,11 +68,11 @@ undeclared_dated path name files begun input out out' result u is prints =
 
 -- ---- over a declaration
 module _ (d : Declaration) (name : Option (List ℕ)) (old new : Devices) (out out' : SinkTold) (result : Status) where
-  pub file_printed : (x : MergedPackets) → MergesDated d name old new (all_timed x.dated.packets.items) x.dated.taps.items (shift_of x.dated.start) x.since.event x.since.ends.items → IsWritten (file_of d x) → IsFileReadBack d x
+  pub file_printed : (x : MergedPackets) → MergesDated d name old new (all_timed x.dated.packets.items) x.dated.taps.items (shift_of x.dated.start) x.since.event x.since.ends.items → AreReady d x → IsWritten (file_of d x) → IsFileReadBack d x
       → Prints (IsOnlyText (file_bytes (file_of d x)) statuses.Done) out out' result → Prints (DatedOver d name old new) out out' result
-  file_printed x is written back prints =
+  file_printed x is ready written back prints =
       prints_as (IsOnlyText (file_bytes (file_of d x)) statuses.Done) (DatedOver d name old new) out out' result
-      (λ status text only. inl (all_timed x.dated.packets.items, x.dated.taps.items, shift_of x.dated.start, x.since.event, x.since.ends.items, is, written, back, only)) prints
+      (λ status text only. inl (all_timed x.dated.packets.items, x.dated.taps.items, shift_of x.dated.start, x.since.event, x.since.ends.items, is, ready.dated.dated, written, back, only)) prints
 
   pub none_printed : (why : Unmerged) → DatesNot d name old new why → Prints (TellsUnmerged why) out out' result → Prints (DatedOver d name old new) out out' result
   none_printed why is prints = prints_as (TellsUnmerged why) (DatedOver d name old new) out out' result (λ status text tells. inr (why, is, tells)) prints

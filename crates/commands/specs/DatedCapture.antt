@@ -6,7 +6,7 @@ use Rattle.traces.specs.declared.event_id.EventId.{EventId}
 use Rattle.mergecap.specs.MergedCapture.{Timed}
 use Rattle.pcapng_blocks.specs.File.{IsWritten, file_bytes}
 use Rattle.merged_blocks.specs.declared.taps.Tap.{Tap}
-use Rattle.merged_blocks.specs.MergedFile.{merged_file}
+use Rattle.merged_blocks.specs.MergedFile.{AreDated, merged_file}
 use Rattle.merged_blocks.specs.Reading.{AreEarly, IsReadBack}
 use Rattle.session.specs.Script.{Devices}
 use Rattle.merge_script.specs.declared.unmerged.Unmerged.{Unmerged}
@@ -18,11 +18,11 @@ use Rattle.commands.specs.declared.declaration.Undeclared.{Undeclared}
 use Rattle.problem_commands.specs.declared.status.Status.{Status}
 use Rattle.problem_commands.specs.declared.status.Status.TheVariants.{Done}
 
--- the file of the merge of all packets of the script, with their taps and dates, and each so long after one event, that of the name or the
--- first of all; it is read again as these packets where all dates are early enough for readers; or a line that says why there is none
+-- the file of the merge of all packets of the script, with their taps and dates, which a file can say, and each so long after one event, that
+-- of the name or the first of all; it is read again as these packets where all dates are early enough for readers; or a line that says why there is none
 abbrev pub DatedOver : Declaration → Option (List ℕ) → Devices → Devices → Status → List ℕ → Type 0
 DatedOver d name old new status text =
-    ((ordered : List Timed) × (taps : List Tap) × (shift : ℤ) × (since : EventId) × (each : List Ends) × MergesDated d name old new ordered taps shift since each
+    ((ordered : List Timed) × (taps : List Tap) × (shift : ℤ) × (since : EventId) × (each : List Ends) × MergesDated d name old new ordered taps shift since each × AreDated ordered taps shift
     × IsWritten (merged_file d taps shift since ordered each) × (AreEarly shift ordered → IsReadBack d taps shift since ordered each)
     × IsOnlyText (file_bytes (merged_file d taps shift since ordered each)) Done status text)
     ⊎ ((why : Unmerged) × DatesNot d name old new why × TellsUnmerged why status text)

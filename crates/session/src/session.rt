@@ -88,9 +88,9 @@ impl Session {
     }
 
     /// Writes the reply to a line, which is given without its line feed and has at most 4,096 bytes. A command that is
-    /// refused changes nothing. The steps of its searches are counted: `time`, `merge`, `problem`, `report` and `thin`
-    /// take none, nor do `interval`, `order` and `prove` where the first event is kept, nor `interval` and `order` where
-    /// the second one is. Where some execution exists before and after an `add`, its steps go by the nodes whose values
+    /// refused changes nothing. The steps of its searches are counted: `time`, `times`, `merge`, `problem`, `report` and
+    /// `thin` take none, nor do `interval`, `order`, `prove` and `times` about a first event that is kept, nor `interval`
+    /// and `order` where the second one is. Where some execution exists before and after an `add`, its steps go by the nodes whose values
     /// or distances it changes, unless it brings the source's first reading; without a new event it takes none. No call
     /// before answered `Memory`.
     ///

@@ -141,8 +141,8 @@ impl Session {
     }
 
     /// The least and the greatest real time from an event to that of each packet, over all executions of what was added,
-    /// in units of 1e-9 ns and in the order of the packets. An error comes only where memory runs out; the session stays as
-    /// it was.
+    /// in units of 1e-9 ns and in the order of the packets. An error comes only where memory runs out; what was
+    /// declared and accepted stays.
     ///
     /// No call before ran out of memory, some execution obeys all bounds, and the event and that of each packet were
     /// accepted. By kept rows where the event has them, else two free rows are filled once, and the steps for it are

@@ -157,8 +157,8 @@ fn start_of(names: &Roster, solver: &Solver, source: Option<Nano>) -> Start
 }
 
 impl Session {
-    /// The time and the date of the event of all that was added that comes first in the merge, in units of 1e-9 ns; both
-    /// are 0 where there is no event. It takes no memory, and no steps.
+    /// The time and the date of the event of all that was added that comes first in the merge, in units of 1e-9 ns;
+    /// both are the same where there is no event. It takes no memory, and no steps.
     ///
     /// With a source whose clock has a reading, the date is the least end of the event's time by that clock, where there is
     /// one; else it is the event's own stamp. No call before ran out of memory, and some execution obeys all bounds.

@@ -1,9 +1,9 @@
 // What is kept of a problem.
 ghost use Rattle.std.specs.Prelude.{◌≡◌, ◌<◌, Bool, List, All, IfOk, length};
 ghost use Rattle.problem_model.specs.Problem.{IsProblem};
-ghost use Rattle.thinning.specs.Thinning.{Thins};
-ghost use Rattle.thinning.specs.Thinned.{IsThinnedTo, HasAsked, marked};
-ghost use Rattle.thinning.specs.Kept.{message_marks, thinned_lists, FitsTo};
+ghost use Rattle.thinning.specs.Small.{ShrinksTo};
+ghost use Rattle.thinning.specs.Thinned.{IsThinnedTo, HasAsked};
+ghost use Rattle.thinning.specs.Kept.{event_marks, message_marks, thinned_lists, FitsTo};
 ghost use Rattle.thinning.specs.Staying.{Stay, IsMarkedAlso, AreEndsMarked};
 
 use crate::asked::{asked_marks, mark};
@@ -77,7 +77,7 @@ fn staying(
 pub fn thin(alloc: Global, p: &Problem, asked: &[u32]) -> Result<Thinned, AllocError>
     requires inside { All (λ k. k < length p.now.events) asked.now }
     ensures thinned { IfOk result (λ t. IsThinnedTo p.now (thinned_lists p.now t)) }
-    ensures implied { IfOk result (λ t. Thins p.now 0 (marked p.now.messages (message_marks t))) }
+    ensures shrinks { IfOk result (λ t. ShrinksTo p.now (event_marks t) (message_marks t)) }
     ensures asked { IfOk result (λ t. HasAsked p.now asked.now (thinned_lists p.now t)) }
     ensures problem { IfOk result (λ t. IsProblem (thinned_lists p.now t)) }
     ensures fits { IfOk result (λ t. FitsTo p.now t) }

@@ -22,7 +22,7 @@ returns-in-Ok-clause-dated g c =
     let x = c.in-Ok.merged in
     let same = c.in-Ok.ensures.declared in
     file_printed c.args.session.now.declaration (option_map (λ (event : Bor (List ℕ)). event.now) c.args.since) (reads (g.F.Files.told c.args.files.now) (g.I.Source.told c.args.input.now))
-    (reads (g.F.Files.told c.date_script.new.files) (g.I.Source.told c.date_script.new.input)) (g.O.Sink.told c.args.out.now) (g.O.Sink.told c.print.new.out) c.print.result x c.in-Ok.ensures.ok
+    (reads (g.F.Files.told c.date_script.new.files) (g.I.Source.told c.date_script.new.input)) (g.O.Sink.told c.args.out.now) (g.O.Sink.told c.print.new.out) c.print.result x c.in-Ok.ensures.ok c.in-Ok.ensures.able
     (subst (λ (d : Declaration). IsWritten (file_of d x)) same c.print.ensures.written) (subst (λ (d : Declaration). IsFileReadBack d x) same c.print.ensures.read_back)
     (subst (λ (d : Declaration). Prints (IsOnlyText (file_bytes (file_of d x)) Done) (g.O.Sink.told c.args.out.now) (g.O.Sink.told c.print.new.out) c.print.result) same c.print.ensures.prints)
 

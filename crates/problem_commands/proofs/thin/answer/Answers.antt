@@ -28,4 +28,4 @@ returns-in-Ok-thinned g c =
     let small = thinned_lists p c.in-Ok-thinned.kept in
     let asked = subst (λ (places : List ℕ). HasAsked p places small) c.deref.ensures.value c.in-Ok-thinned.ensures.asked in
     c.print_kept.ensures names (all_known p names c.in-Ok.asked.items c.in-Ok.ensures.ok)
-    (record { implied = c.in-Ok-thinned.ensures.implied; lawful = c.in-Ok-thinned.ensures.problem; thinned = c.in-Ok-thinned.ensures.thinned; named = all_kept p small names c.in-Ok.asked.items c.in-Ok.ensures.ok asked })
+    (record { shrinks = c.in-Ok-thinned.ensures.shrinks; ends = c.in-Ok-thinned.ensures.fits.ends; lawful = c.in-Ok-thinned.ensures.problem; thinned = c.in-Ok-thinned.ensures.thinned; named = all_kept p small names c.in-Ok.asked.items c.in-Ok.ensures.ok asked })

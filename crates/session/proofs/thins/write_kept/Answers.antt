@@ -15,7 +15,7 @@ returns-clause-writes g c = λ names named.
     let p = c.args.p.now in
     let kept = c.in_ok-kept.kept in
     let thin = c.in_ok-kept.ensures in
-    let is : IsThinnedFor p names (event_marks kept) (message_marks kept) = record { implied = thin.implied; lawful = thin.problem; thinned = thin.thinned; named = all_kept p (thinned_lists p kept) names c.args.asked.now named thin.asked } in
+    let is : IsThinnedFor p names (event_marks kept) (message_marks kept) = record { shrinks = thin.shrinks; ends = thin.fits.ends; lawful = thin.problem; thinned = thin.thinned; named = all_kept p (thinned_lists p kept) names c.args.asked.now named thin.asked } in
     such_of (OfEach p names (IsThinText p names)) (inl (all_known p names c.args.asked.now named, (event_marks kept, message_marks kept, is, refl)))
     (c.written.ensures.writes _ _ _ c.write_thinned.ensures)
 

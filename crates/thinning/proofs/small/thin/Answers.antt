@@ -31,7 +31,7 @@ returns c =
           (λ from to. c.small_ends_are_the_same.ensures.unbounded p kept events messages old from to is)
           (λ x. c.small_problems_suffice.ensures.fewer p 0 kept events messages old x is)
           (λ x. c.small_problems_suffice.ensures.extended p kept events messages old x is);
-      implied = may.thins;
+      shrinks = (old, is);
       asked = has_asked p lawful places marks keeps stays are may stay;
       problem = small_lawful p lawful places marks keeps stays are may stay;
       fits = record { events = stay.each; messages = may.each; ends = stay.ends };
