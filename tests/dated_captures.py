@@ -1,7 +1,8 @@
 #!/usr/bin/env python3
-"""Merges captures by `tracesync mergecap DECL pcapng`, and reads the outcome by a reader of its own.
+"""Merges captures by `tracesync mergecap DECL pcapng`, and reads the outcome by a reader of its own and by the tools
+of Wireshark.
 
-    tests/dated_captures.py
+    tests/dated_captures.py [--packets N]
 
 Each packet must stand there once, in the order of the reply to `merge` of a session over the same script, with both its
 lengths, under the interface of its label and its link type, with a comment that names its event and the stamp of that
@@ -9,11 +10,19 @@ in the session's problem, and has the line of that event in the session's reply 
 behind `pcapng`, or where none is since the first one; an interface has its label's name, its host, its clock and the
 bounds of that, and counts ns.
 A stamp must be the date that the session gives: that of the first event, by `time` where its clock's source tells it
-and else by its own stamp, and what `merge` has between the two, rounded down to ns. Where capinfos and tshark are
-installed, they must count, stamp and comment the packets in the same way. PROGRAM names the program, else it is the one
+and else by its own stamp, and what `merge` has between the two, rounded down to ns.
+
+Where capinfos, editcap, mergecap and tshark are installed, capinfos must tell of as many packets and bytes, of the
+first and the last date, of their order and of these interfaces; tshark must show these dates, interfaces, lengths and
+comments, and find a packet by its comment; in each capture that was merged it must show the packet with the lengths
+that it has in the outcome, at the stamp that its comment tells; and neither editcap, which writes the outcome again,
+nor Wireshark's mergecap, which merges it with another capture, may lose or change anything.
+
+With --packets two captures of so many packets together are merged, too. PROGRAM names the program, else it is the one
 that is built here. Prints a line for each case, and with status 1 the first one that is otherwise.
 """
 
+import argparse
 import struct
 import subprocess
 import sys
@@ -23,10 +32,14 @@ from collections.abc import Sequence
 from dataclasses import dataclass
 from fractions import Fraction
 
-from support.captures import SECTION, block, blocks, classic, frame
+from support.captures import (
+    COOKED, ETHERNET, INTERFACE, SECTION, block, blocks, classic, classic_head, classic_record, cooked, frame,
+    interface,
+)  # fmt: skip
 from support.program import TOP, program, read, write
+from support.reading import Interface, Packet, Written, blocks_of, file_of, packets_in
 from support.replies import answered, script_of
-from support.wireshark import is_there, packets_of, tool
+from support.wireshark import fields_of, interfaces_of, is_there, packets_of, summary_of, tool
 
 EXAMPLES = f"{TOP}/examples"
 HOSTS = f"{EXAMPLES}/captures/hosts.toml"
@@ -35,116 +48,36 @@ DUAL = [f"add left {EXAMPLES}/dual/left.pcap", f"add right {EXAMPLES}/dual/right
 PLAIN = '[hosts.left]\nshort = 5\nlate = 7\n[labels.left]\nhost = "left"\nkind = "capture"\n'
 # A 64th of a second, which a classic capture in us cannot say.
 FINE = 10**9 // 64
+# The bounds of a clock and of its stamps.
+UNITS = {"short": "ppb", "long": "ppb", "early": "ns", "late": "ns"}
+# What Wireshark calls these link types.
+ENCAPSULATIONS = {ETHERNET: "ether", COOKED: "linux-sll2"}
+# tshark says of longer packets that they have so many bytes.
+MOST_SHOWN = 2**31 - 1
 
 
-@dataclass(frozen=True)
-class Packet:
-    """A packet: its link type, both its lengths, and its bytes."""
-
-    link: int
-    kept: int
-    length: int
-    data: bytes
+def same(case: str, what: str, found: Sequence[object], wanted: Sequence[object]) -> None:
+    """Raises AssertionError where two lists differ, with the first place where they do."""
+    if found == wanted:
+        return
+    at = next((k for k, pair in enumerate(zip(found, wanted)) if pair[0] != pair[1]), min(len(found), len(wanted)))
+    raise AssertionError((case, what, at, found[at : at + 1], "instead of", wanted[at : at + 1]))
 
 
-@dataclass(frozen=True)
-class Written:
-    """A packet as it is written: the number of its interface, its stamp, the packet, and its options by code."""
-
-    interface: int
-    stamp: int
-    packet: Packet
-    options: dict[int, bytes]
-
-
-@dataclass(frozen=True)
-class Interface:
-    """An interface: its link type, the bytes that are captured at most, and its options by code."""
-
-    link: int
-    snaplen: int
-    options: dict[int, bytes]
-
-
-def options_of(body: bytes) -> dict[int, bytes]:
-    """Options by their codes, up to the end of them."""
-    found: dict[int, bytes] = {}
-    at = 0
-    while at + 4 <= len(body):
-        code, size = struct.unpack_from("<HH", body, at)
-        if code == 0:
-            break
-        found[code] = body[at + 4 : at + 4 + size]
-        at += 4 + size + -size % 4
-    return found
-
-
-def blocks_of(data: bytes) -> list[tuple[int, bytes]]:
-    """The blocks of a file of little-endian pcapng: the type and the body of each."""
-    found: list[tuple[int, bytes]] = []
-    at = 0
-    while at < len(data):
-        kind, size = struct.unpack_from("<II", data, at)
-        assert size % 4 == 0 and data[at + size - 4 : at + size] == data[at + 4 : at + 8], at
-        found.append((kind, data[at + 8 : at + size - 4]))
-        at += size
-    return found
-
-
-def file_of(data: bytes) -> tuple[list[Interface], list[Written]]:
-    """The interfaces of a file of one section, and its packets."""
-    (first, head), *rest = blocks_of(data)
-    assert first == 0x0A0D0D0A and head == struct.pack("<IHHq", 0x1A2B3C4D, 1, 0, -1), head
-    interfaces: list[Interface] = []
-    packets: list[Written] = []
-    for kind, body in rest:
-        if kind == 1:
-            link, _, snaplen = struct.unpack_from("<HHI", body)
-            interfaces.append(Interface(link, snaplen, options_of(body[8:])))
-        else:
-            assert kind == 6, kind
-            number, high, low, kept, length = struct.unpack_from("<IIIII", body)
-            packet = Packet(interfaces[number].link, kept, length, body[20 : 20 + kept])
-            options = options_of(body[20 + kept + -kept % 4 :])
-            packets.append(Written(number, high << 32 | low, packet, options))
-    return interfaces, packets
-
-
-def captured(data: bytes) -> list[Packet]:
-    """The packets of a little-endian capture, classic or of pcapng."""
-    if data[:4] == SECTION[:4]:
-        return [packet for _, _, packet in file_of_any(data)]
-    link = int.from_bytes(data[20:24], "little")
-    found: list[Packet] = []
-    at = 24
-    while at + 16 <= len(data):
-        kept, length = struct.unpack_from("<II", data, at + 8)
-        found.append(Packet(link, kept, length, data[at + 16 : at + 16 + kept]))
-        at += 16 + kept
-    return found
-
-
-def file_of_any(data: bytes) -> list[tuple[int, int, Packet]]:
-    """The enhanced packets of a file of one section, whatever stands beside them."""
-    links: list[int] = []
-    found: list[tuple[int, int, Packet]] = []
-    for kind, body in blocks_of(data):
-        if kind == 1:
-            links.append(int.from_bytes(body[:2], "little"))
-        elif kind == 6:
-            number, high, low, kept, length = struct.unpack_from("<IIIII", body)
-            found.append((number, high << 32 | low, Packet(links[number], kept, length, body[20 : 20 + kept])))
-    return found
+# ---- what a session says
 
 
 def description(declaration: str, label: str) -> str:
-    """What must stand at the interfaces of a label: its host, its clock and the bounds of that."""
+    """What must stand at the interfaces of a label: its host, its clock and the bounds of that, of stamps those of its
+    own where it has them."""
     said = tomllib.loads(read(declaration).decode())
-    host = said["labels"][label]["host"]
-    numbers = {"short": 0, "long": 0, "early": 0, "late": 0} | said["hosts"][host]
-    units = {"short": "ppb", "long": "ppb", "early": "ns", "late": "ns"}
-    bounds = " ".join(f"{it} {numbers[it]} {unit}" for it, unit in units.items())
-    return f"{host} clock {host} {bounds}"
+    table = said["labels"][label]
+    host = said["hosts"][table["host"]]
+    clocks = host.get("clocks", [{"name": table["host"]}])
+    clock = next(it for it in clocks if it["name"] == table.get("clock", clocks[0]["name"]))
+    numbers = dict.fromkeys(UNITS, 0) | host | clock | table
+    bounds = " ".join(f"{it} {numbers[it]} {unit}" for it, unit in UNITS.items())
+    return f"{table['host']} clock {clock['name']} {bounds}"
 
 
 def described(declaration: str, label: str, link: int) -> Interface:
@@ -152,27 +85,44 @@ def described(declaration: str, label: str, link: int) -> Interface:
     return Interface(link, 0, {2: label.encode(), 3: description(declaration, label).encode(), 9: b"\x09"})
 
 
-def stamps_of(declaration: str, lines: Sequence[str]) -> dict[str, int]:
-    """The stamp of each event in ns, as the problem of a session has it."""
-    problem = answered(declaration, [*lines, "problem"])[-1]
+@dataclass(frozen=True)
+class Told:
+    """What sessions tell of the events of a script: since which one, their times in the earliest execution in ns, in
+    its order, their stamps in ns, their ends since that one, and how far dates are behind the times."""
+
+    since: str
+    times: dict[str, Fraction]
+    stamps: dict[str, int]
+    ends: dict[str, str]
+    shift: Fraction
+
+    def date(self, event: str) -> int:
+        """The date of an event in ns."""
+        return (self.times[event] + self.shift) // 1
+
+    def comment(self, event: str) -> str:
+        """What must stand at the packet of an event."""
+        return f"tracesync {event} stamp {self.stamps[event]} since {self.since} {self.ends[event]}"
+
+
+def told_of(declaration: str, lines: Sequence[str], event: Sequence[str]) -> Told:
+    """What sessions tell of these additions, since this event or the first one."""
+    merged, problem = answered(declaration, [*lines, "merge", "problem"])[-2:]
+    times = {event: Fraction(time) for time, event, *_ in (line.split(" ") for line in merged[1:])}
+    first = next(iter(times))
+    since = event[0] if event else first
     events = [line.split(" ") for line in problem if line.startswith("event ")]
-    return {name: int(stamp) for _, name, _, stamp, *_ in events}
+    stamps = {name: int(stamp) for _, name, _, stamp, *_ in events}
+    after, (time,) = answered(declaration, [*lines, f"times {since}", f"time {first}"])[-2:]
+    assert after[0] == f"times {len(after) - 1}", after[0]
+    ends = {name: f"{least} to {greatest} ns" for name, least, greatest in (line.split(" ") for line in after[1:])}
+    # (the first event has the least end of its time as its date, or else its own stamp)
+    words = time.split(" ")
+    start = Fraction(words[1]) if words[0] == "time" and words[1] != "-inf" else Fraction(stamps[first])
+    return Told(since, times, stamps, ends, start - times[first])
 
 
-def ends_of(declaration: str, lines: Sequence[str], since: str) -> dict[str, str]:
-    """How long after an event each one was, as the reply of a session to `times` has it."""
-    told = answered(declaration, [*lines, f"times {since}"])[-1]
-    assert told[0] == f"times {len(told) - 1}", told[0]
-    ends = [line.split(" ") for line in told[1:]]
-    return {name: f"{least} to {greatest} ns" for name, least, greatest in ends}
-
-
-def start_of(declaration: str, lines: Sequence[str], first: str, stamp: int) -> Fraction:
-    """The date of the first event in ns: the least end of its time by the source, or its own stamp."""
-    words = answered(declaration, [*lines, f"time {first}"])[-1][0].split(" ")
-    if words[0] == "time" and words[1] != "-inf":
-        return Fraction(words[1])
-    return Fraction(stamp)
+# ---- what the program writes
 
 
 def dated(declaration: str, lines: Sequence[str], event: Sequence[str] = ()) -> subprocess.CompletedProcess[bytes]:
@@ -181,50 +131,160 @@ def dated(declaration: str, lines: Sequence[str], event: Sequence[str] = ()) -> 
     return subprocess.run(words, input=script_of(lines), capture_output=True)
 
 
-def merges(
-    folder: str, case: str, declaration: str, lines: Sequence[str], *event: str, is_shown: bool = True
-) -> None:
-    """Wants the file of these additions, since an event or since the first one, which the tools of Wireshark show or
-    not. Raises AssertionError where it is otherwise."""
+def captures_of(lines: Sequence[str]) -> list[tuple[str, str]]:
+    """The label and the path of each addition of a capture, and not of a log."""
+    added = [line.split(" ") for line in lines]
+    return [(label, path) for _, label, path in added if not path.endswith(".csv")]
+
+
+def merges(folder: str, case: str, declaration: str, lines: Sequence[str], *event: str) -> None:
+    """Wants the file of these additions, since an event or since the first one. Raises AssertionError where it is
+    otherwise."""
     done = dated(declaration, lines, event)
     assert done.returncode == 0, (case, done.returncode, done.stdout[:80])
-    merged = [line.split(" ") for line in answered(declaration, [*lines, "merge"])[-1][1:]]
-    times = {event: Fraction(time) for time, event, *_ in merged}
-    first = merged[0][1]
-    stamps = stamps_of(declaration, lines)
-    shift = start_of(declaration, lines, first, stamps[first]) - times[first]
+    assert done.stdout.startswith(SECTION), (case, "another section", done.stdout[:32])
+    kinds = {kind for kind, _ in blocks_of(done.stdout[len(SECTION) :])}
+    assert kinds == {1, 6}, (case, "other blocks", kinds)
+    told = told_of(declaration, lines, event)
     packets: dict[str, Packet] = {}
-    for _, label, path in (line.split(" ") for line in lines):
-        packets |= {f"{label}#{n}": packet for n, packet in enumerate(captured(read(path)), 1)}
-    order = [event for _, event, *_ in merged if event in packets]
+    for label, path in captures_of(lines):
+        packets |= {f"{label}#{n}": packet for n, packet in enumerate(packets_in(read(path)), 1)}
+    order = [event for event in told.times if event in packets]
     under = {event: (event.split("#")[0], packets[event].link) for event in order}
     taps = sorted(set(under.values()))
     interfaces, written = file_of(done.stdout)
-    since = event[0] if event else first
-    ends = ends_of(declaration, lines, since)
-    said = {it: {1: f"tracesync {it} stamp {stamps[it]} since {since} {ends[it]}".encode()} for it in order}
-    wanted = [Written(taps.index(under[it]), (times[it] + shift) // 1, packets[it], said[it]) for it in order]
-    assert written == wanted, (case, "other packets", written[:2], wanted[:2])
-    assert interfaces == [described(declaration, *tap) for tap in taps], (case, interfaces)
-    if is_shown:
-        read_again(case, write(f"{folder}/merged.pcapng", done.stdout), written)
-    begin = f"from {written[0].stamp} ns on, since {since}"
-    print(f"{case}: {len(written)} packets under {len(interfaces)} interfaces, {begin}")
+    same(case, "interfaces", interfaces, [described(declaration, *tap) for tap in taps])
+    said = {it: {1: told.comment(it).encode()} for it in order}
+    wanted = [Written(taps.index(under[it]), told.date(it), packets[it], said[it]) for it in order]
+    same(case, "packets", written, wanted)
+    is_seen = is_there("capinfos", "editcap", "mergecap", "tshark")
+    if is_seen:
+        seen(case, Outcome(folder, write(f"{folder}/merged.pcapng", done.stdout), interfaces, written), lines)
+    begin = f"from {written[0].stamp} ns on, since {told.since}"
+    by = "by the tools of Wireshark too" if is_seen else "without the tools of Wireshark"
+    print(f"{case}: {len(written)} packets under {len(interfaces)} interfaces, {begin}, {by}", flush=True)
 
 
-def read_again(case: str, path: str, written: Sequence[Written]) -> None:
-    """Wants capinfos and tshark to read what was written, where they are installed."""
-    if not is_there("capinfos", "tshark"):
-        return
-    assert packets_of(path) == len(written), (case, "capinfos counts others")
-    fields = ("frame.interface_id", "frame.time_epoch", "frame.len", "frame.cap_len", "frame.comment")
-    told = tool("tshark", "-r", path, "-T", "fields", *(word for it in fields for word in ("-e", it)))
-    lines: list[str] = []
-    for it in written:
-        seconds, ns = divmod(it.stamp, 10**9)
-        comment = it.options[1].decode()
-        lines.append(f"{it.interface}\t{seconds}.{ns:09}\t{it.packet.length}\t{it.packet.kept}\t{comment}")
-    assert told.splitlines() == lines, (case, "tshark reads something else")
+# ---- what the tools of Wireshark see
+
+
+@dataclass(frozen=True)
+class Outcome:
+    """What was written: a folder, the path of the file, its interfaces and its packets."""
+
+    folder: str
+    path: str
+    interfaces: list[Interface]
+    written: list[Written]
+
+
+def seconds(stamp: int) -> str:
+    """A stamp in ns as seconds."""
+    return f"{stamp // 10**9}.{stamp % 10**9:09}"
+
+
+def nanoseconds(said: str) -> int:
+    """Seconds in ns."""
+    whole, _, part = said.partition(".")
+    return int(whole) * 10**9 + int(part.ljust(9, "0"))
+
+
+def seen(case: str, outcome: Outcome, lines: Sequence[str]) -> None:
+    """Wants the tools of Wireshark to see all of what was written."""
+    by_capinfos(case, outcome)
+    by_tshark(case, outcome)
+    by_filter(case, outcome)
+    by_captures(case, outcome, lines)
+    by_editcap(case, outcome)
+    by_mergecap(case, outcome)
+
+
+def by_capinfos(case: str, outcome: Outcome) -> None:
+    """Wants capinfos to tell of these packets and interfaces."""
+    told, written = summary_of(outcome.path), outcome.written
+    links = {it.packet.link for it in written}
+    wanted = {
+        "File type": "pcapng",
+        "File encapsulation": ENCAPSULATIONS[min(links)] if len(links) == 1 else "per-packet",
+        "Number of packets": str(len(written)),
+        "Data size (bytes)": str(sum(it.packet.length for it in written)),
+        "Start time": seconds(written[0].stamp),
+        "End time": seconds(written[-1].stamp),
+        "Strict time order": "True",
+    }
+    assert {it: told.get(it) for it in wanted} == wanted, (case, "capinfos tells", told, "instead of", wanted)
+    titles = ("Name", "Description", "Encapsulation", "Capture length", "Time precision", "Number of packets")
+    found = [[it.get(title, "") for title in titles] for it in interfaces_of(outcome.path)]
+    for it in found:
+        it[2] = it[2].rpartition(" - ")[2].removesuffix(")")
+    numbers = [it.interface for it in written]
+    here = enumerate(outcome.interfaces)
+    shown = [[it.options[2].decode(), it.options[3].decode(), ENCAPSULATIONS[it.link], "0"] for _, it in here]
+    counts = [["nanoseconds (9)", str(numbers.count(n))] for n in range(len(shown))]
+    same(case, "interfaces by capinfos", found, [one + other for one, other in zip(shown, counts)])
+
+
+def by_tshark(case: str, outcome: Outcome) -> None:
+    """Wants tshark to show these packets."""
+    fields = ["number", "interface_id", "interface_name", "interface_description"]
+    fields += ["time_epoch", "len", "cap_len", "comment"]
+    wanted: list[list[str]] = []
+    for n, it in enumerate(outcome.written, 1):
+        options, packet = outcome.interfaces[it.interface].options, it.packet
+        place = [str(n), str(it.interface), options[2].decode(), options[3].decode(), seconds(it.stamp)]
+        wanted.append([*place, str(min(packet.length, MOST_SHOWN)), str(packet.kept), it.options[1].decode()])
+    same(case, "fields of tshark", list(fields_of(outcome.path, [f"frame.{it}" for it in fields])), wanted)
+
+
+def by_filter(case: str, outcome: Outcome) -> None:
+    """Wants a display filter to find one packet, that in the middle, by the name of its event."""
+    middle = len(outcome.written) // 2
+    event = outcome.written[middle].options[1].decode().split(" ")[1]
+    told = list(fields_of(outcome.path, ["frame.number"], f'frame.comment contains "tracesync {event} "'))
+    same(case, "packets by a filter", told, [[str(middle + 1)]])
+
+
+def by_captures(case: str, outcome: Outcome, lines: Sequence[str]) -> None:
+    """Wants tshark to show in each capture that was merged the packets with these lengths, at these stamps."""
+    fields = ["frame.number", "frame.time_epoch", "frame.len", "frame.cap_len"]
+    there: dict[str, tuple[int, ...]] = {}
+    for label, path in captures_of(lines):
+        for number, stamp, *lengths in fields_of(path, fields):
+            there[f"{label}#{number}"] = (nanoseconds(stamp), *map(int, lengths))
+    here: dict[str, tuple[int, ...]] = {}
+    for it in outcome.written:
+        words = it.options[1].decode().split(" ")
+        here[words[1]] = (int(words[3]), min(it.packet.length, MOST_SHOWN), it.packet.kept)
+    same(case, "packets of the captures", sorted(there.items()), sorted(here.items()))
+
+
+def by_editcap(case: str, outcome: Outcome) -> None:
+    """Wants editcap to write all of it again."""
+    again = f"{outcome.folder}/again.pcapng"
+    tool("editcap", outcome.path, again)
+    interfaces, written = file_of(read(again))
+    same(case, "interfaces of editcap", interfaces, outcome.interfaces)
+    same(case, "packets of editcap", written, outcome.written)
+
+
+def by_mergecap(case: str, outcome: Outcome) -> None:
+    """Wants Wireshark's mergecap to keep all of it beside another capture, of two packets, which has one at the first
+    date."""
+    stamps = [outcome.written[0].stamp, outcome.written[-1].stamp]
+    other = write(f"{outcome.folder}/other.pcapng", blocks([(it, frame(3, 4, b"other")) for it in stamps]))
+    both = f"{outcome.folder}/both.pcapng"
+    tool("mergecap", "-F", "pcapng", "-w", both, outcome.path, other)
+    interfaces, written = file_of(read(both))
+    count = len(outcome.interfaces)
+    same(case, "interfaces of mergecap", interfaces[:count], outcome.interfaces)
+    same(case, "packets of mergecap", [it for it in written if it.interface < count], outcome.written)
+    others = [(it.interface, it.stamp) for it in written if it.interface >= count]
+    same(case, "packets of the other capture", others, [(count, it) for it in stamps])
+    dates = [it.stamp for it in written]
+    same(case, "order of mergecap", dates, sorted(dates))
+
+
+# ---- cases
 
 
 def no_file(case: str, declaration: str, lines: Sequence[str], wanted: str, *event: str) -> None:
@@ -236,8 +296,60 @@ def no_file(case: str, declaration: str, lines: Sequence[str], wanted: str, *eve
 
 def empty(folder: str, stamps: Sequence[int]) -> str:
     """A file of pcapng with an empty packet at each of these stamps."""
-    interface = struct.pack("<IIHHIHHB3xII", 1, 32, 1, 0, 0, 9, 1, 9, 0, 32)
-    return write(f"{folder}/empty", SECTION + interface + b"".join(block(stamp, b"") for stamp in stamps))
+    packets = b"".join(block(stamp, b"") for stamp in stamps)
+    return write(f"{folder}/empty", SECTION + interface(ETHERNET, 0) + packets)
+
+
+def cut(folder: str, label: str, most: int) -> str:
+    """The addition of an example of which at most so many bytes of each packet are left."""
+    data = read(f"{EXAMPLES}/captures/{label}.pcap")
+    found, at = [data[:24]], 24
+    while at < len(data):
+        kept, length = struct.unpack_from("<II", data, at + 8)
+        left = min(kept, most)
+        found += [data[at : at + 8], struct.pack("<II", left, length), data[at + 16 : at + 16 + left]]
+        at += 16 + kept
+    return f"add {label} {write(f'{folder}/{label}-{most}', b''.join(found))}"
+
+
+def uneven(folder: str) -> str:
+    """A capture whose packets have other original lengths than what was captured: longer, shorter, none, and all."""
+    whole = frame(1, 2, b"word")
+    lengths = [(whole, 1500), (whole[:20], 50), (whole, 10), (b"", 7), (b"", 0)]
+    lengths += [(whole[:41], MOST_SHOWN), (whole, 2**32 - 1)]
+    records = [classic_record(stamp, kept, length=length) for stamp, (kept, length) in enumerate(lengths)]
+    return write(f"{folder}/uneven", classic_head() + b"".join(records))
+
+
+def links(folder: str) -> str:
+    """A file with two interfaces of other link types, in turn."""
+    packets = [frame(1, 2, b"word   %d" % n) for n in range(6)]
+    data = [block(n, cooked(it, 2, True) if n % 2 else it, n % 2) for n, it in enumerate(packets)]
+    return write(f"{folder}/links", SECTION + INTERFACE + interface(COOKED) + b"".join(data))
+
+
+def longest(folder: str) -> tuple[str, str]:
+    """A declaration with names of 32 bytes and the greatest bounds, of which a label has its own, and its label."""
+    host, first, second, label = (it * 32 for it in "hcdl")
+    most = 2**62 - 1
+    text = f"[hosts.{host}]\nshort = 999_999_999\nlong = 1_000_000_000\nearly = {most}\nlate = {most}\n"
+    text += f'clocks = [{{ name = "{first}" }}, {{ name = "{second}", short = 5 }}]\n'
+    text += f'[labels.{label}]\nhost = "{host}"\nclock = "{second}"\nkind = "capture"\nlate = 3\n'
+    return write(f"{folder}/longest.toml", text), label
+
+
+def pair(folder: str, count: int) -> list[str]:
+    """The additions of two captures that have so many packets together, which are cut to 64 bytes: datagrams from left
+    to right or back, in turn, one each 10 us, which arrive 2 to 5 us later. Right's clock is 3 ms ahead."""
+    files = {label: bytearray(classic_head()) for label in ("left", "right")}
+    for k in range(count // 2):
+        sent = 1_790_000_000 * 10**9 + k * 10_000
+        received = sent + 2_000 + k * 7919 % 3_000
+        ends = (sent, received) if k % 2 == 0 else (received, sent)
+        whole = frame(1 + k % 2, 2 - k % 2, b"%8d" % k + bytes(100), k & 0xFFFF)
+        files["left"] += classic_record(ends[0], whole[:64], length=len(whole))
+        files["right"] += classic_record(ends[1] + 3_000_000, whole[:64], length=len(whole))
+    return [f"add {label} {write(f'{folder}/many-{label}', bytes(data))}" for label, data in files.items()]
 
 
 def chain(folder: str, last: int) -> tuple[str, list[str]]:
@@ -256,21 +368,31 @@ def chain(folder: str, last: int) -> tuple[str, list[str]]:
     return write(f"{folder}/chain.toml", text), lines
 
 
-def cases(folder: str) -> None:
+def lawful(folder: str, plain: str) -> None:
+    """Scripts that have a file."""
     merges(folder, "captures", HOSTS, [LEFT, RIGHT])
     merges(folder, "captures, right first", HOSTS, [RIGHT, LEFT])
     merges(folder, "captures, left's clock the source", f"{EXAMPLES}/captures/by-left.toml", [LEFT, RIGHT])
+    merges(folder, "captures, since an event in the middle", HOSTS, [LEFT, RIGHT], "right#7")
+    for most in (74, 60):
+        lines = [cut(folder, label, most) for label in ("left", "right")]
+        merges(folder, f"captures, cut to {most} bytes", HOSTS, lines)
     merges(folder, "pcapng", HOSTS, [f"add {it} {EXAMPLES}/pcapng/{it}.pcapng" for it in ("left", "right")])
     merges(folder, "two link types", f"{EXAMPLES}/dual/hosts.toml", DUAL)
-    plain = write(f"{folder}/plain.toml", PLAIN)
+    merges(folder, "two link types, since the last event", f"{EXAMPLES}/dual/hosts.toml", DUAL, "right#5")
+    merges(folder, "two link types of one label", plain, [f"add left {links(folder)}"])
+    merges(folder, "lengths of all kinds", plain, [f"add left {uneven(folder)}"])
+    great = write(f"{folder}/great", classic([(5, frame(1, 2, b"a") + bytes(2**18 - 43)), (7, frame(1, 2, b"b"))]))
+    merges(folder, "a packet of 2^18 bytes", plain, [f"add left {great}"])
     fine = write(f"{folder}/fine", classic([(FINE, frame(1, 2, b"a")), (FINE * 3, frame(1, 2, b"b"))]))
     merges(folder, "stamps of a 64th of a second", plain, [f"add left {fine}"])
     merges(folder, "stamps of 0 and of 2^62 ns less 1", plain, [f"add left {empty(folder, [0, 2**62 - 1])}"])
+    merges(folder, "a date of 2^64 ns less 1", *chain(folder, 3))
     one = write(f"{folder}/one", blocks([(5, frame(1, 2, b"a"))]))
     merges(folder, "one packet", plain, [f"add left {one}"])
     merges(folder, "one packet, since itself", plain, [f"add left {one}"], "left#1")
-    merges(folder, "captures, since an event in the middle", HOSTS, [LEFT, RIGHT], "right#7")
-    merges(folder, "two link types, since the last event", f"{EXAMPLES}/dual/hosts.toml", DUAL, "right#5")
+    declaration, label = longest(folder)
+    merges(folder, "the longest names", declaration, [f"add {label} {one}"])
     apart = write(f"{folder}/apart.toml", PLAIN + PLAIN.replace("left", "right"))
     two = [f"add left {one}", f"add right {one}"]
     merges(folder, "hosts that no message joins", apart, two)
@@ -279,7 +401,10 @@ def cases(folder: str) -> None:
     rows = write(f"{folder}/rows.csv", b"1,local,,note\n9,local,,note\n")
     merges(folder, "a log's event first", logged, [f"add left {one}", f"add log {rows}"])
     merges(folder, "since a log's event", logged, [f"add left {one}", f"add log {rows}"], "log#2")
-    merges(folder, "a date of 2^64 ns less 1", *chain(folder, 3), is_shown=False)
+
+
+def without_file(folder: str, plain: str) -> None:
+    """Scripts that have none, and one that has no packet."""
     no_file("a date of 2^64 ns", *chain(folder, 4), "range")
     no_file("a date of 2^64 ns, since an event", *chain(folder, 4), "range", "h4#1")
     no_file("a date of 2^64 ns, since no event", *chain(folder, 4), "refused 28", "h4#2")
@@ -288,6 +413,7 @@ def cases(folder: str) -> None:
     no_file("a name, and a line that is no addition", plain, ["merge"], "refused 20", "left#1")
     done = subprocess.run([program(), "mergecap", plain, "pcapng"], input=b"", capture_output=True)
     assert (done.stdout, done.returncode) == (SECTION, 0), done
+    assert not is_there("capinfos") or packets_of(write(f"{folder}/none", done.stdout)) == 0
     print("no line: a section alone")
     no_file("a line that is no addition", plain, ["merge"], "refused 20")
     far = read(HOSTS).decode().replace("least = 1", "least = 1_000_000")
@@ -299,9 +425,16 @@ def cases(folder: str) -> None:
 
 
 def main() -> int:
+    parser = argparse.ArgumentParser(description=__doc__.split("\n\n")[0])
+    parser.add_argument("--packets", metavar="N", type=int, default=0, help="merge two captures of N packets, too")
+    said = parser.parse_args()
     with tempfile.TemporaryDirectory() as folder:
         try:
-            cases(folder)
+            plain = write(f"{folder}/plain.toml", PLAIN)
+            lawful(folder, plain)
+            without_file(folder, plain)
+            if said.packets:
+                merges(folder, f"{said.packets} packets", HOSTS, pair(folder, said.packets))
         except AssertionError as why:
             print(f"dated_captures: {why}")
             return 1

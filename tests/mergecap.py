@@ -21,7 +21,7 @@ import sys
 import tempfile
 from collections.abc import Sequence
 
-from support.captures import SECTION, block, classic_head, classic_record
+from support.captures import ETHERNET, SECTION, block, classic_head, classic_record, interface
 from support.program import TOP, program, read, write
 from support.replies import replies_of, script_of
 from support.wireshark import is_there, packets_of, tool
@@ -162,8 +162,7 @@ def pieces(folder: str, label: str, path: str, cuts: Sequence[int]) -> list[str]
 def empty_packets(stamps: Sequence[int]) -> bytes:
     """A capture in pcapng of an interface that counts in ns and has no snaplen, with an empty packet at each of these
     stamps."""
-    interface = struct.pack("<IIHHIHHB3xII", 1, 32, 1, 0, 0, 9, 1, 9, 0, 32)
-    return SECTION + interface + b"".join(block(stamp, b"") for stamp in stamps)
+    return SECTION + interface(ETHERNET, 0) + b"".join(block(stamp, b"") for stamp in stamps)
 
 
 def lawful(folder: str) -> None:

@@ -12,8 +12,14 @@ TAGGED = b"\x81\x00"
 # The bytes that a record of each form has around its frame; a block's frame is filled up to four bytes.
 AROUND_RECORD, AROUND_BLOCK = 16, 32
 SECTION = struct.pack("<IIIHHqI", 0x0A0D0D0A, 28, 0x1A2B3C4D, 1, 0, -1, 28)
-# An interface of Ethernet whose option if_tsresol says that it counts in ns.
-INTERFACE = struct.pack("<IIHHIHHB3xII", 1, 32, ETHERNET, 0, SNAPLEN, 9, 1, 9, 0, 32)
+
+
+def interface(link: int, snaplen: int = SNAPLEN) -> bytes:
+    """An interface of this link type whose option if_tsresol says that it counts in ns."""
+    return struct.pack("<IIHHIHHB3xII", 1, 32, link, 0, snaplen, 9, 1, 9, 0, 32)
+
+
+INTERFACE = interface(ETHERNET)
 
 Frames = Iterable[tuple[int, bytes]]  # stamps in ns, and frames
 
@@ -23,9 +29,11 @@ def classic_head(order: str = "<", magic: int = NANOSECONDS, link: int = ETHERNE
     return struct.pack(order + "IHHiIII", magic, 2, 4, 0, 0, SNAPLEN, link)
 
 
-def classic_record(stamp: int, frame: bytes, order: str = "<") -> bytes:
-    """A record of a classic capture that counts in ns."""
-    return struct.pack(order + "IIII", stamp // 10**9, stamp % 10**9, len(frame), len(frame)) + frame
+def classic_record(stamp: int, frame: bytes, order: str = "<", length: int | None = None) -> bytes:
+    """A record of a classic capture that counts in ns. Its original length is another one than the captured where it is
+    said."""
+    whole = len(frame) if length is None else length
+    return struct.pack(order + "IIII", stamp // 10**9, stamp % 10**9, len(frame), whole) + frame
 
 
 def classic(frames: Frames, order: str = "<", magic: int = NANOSECONDS, link: int = ETHERNET) -> bytes:
