@@ -120,11 +120,12 @@ class Captures:
 
 
 class Mergecap:
-    """`mergecap` beside Wireshark's program of this name, over the same two captures. Each writes its output to a file,
-    and both outputs must have as many packets as the two captures, by capinfos."""
+    """`mergecap` beside Wireshark's program of this name, over the same two captures: to classic pcap, and to pcapng,
+    where each packet of tracesync has a comment. What these cost is the difference of both rows. Each program writes
+    its output to a file, and all outputs must have as many packets as the two captures, by capinfos."""
 
-    head = ["MB each", "frame, bytes", "packets", "keys"]
-    head += [f"{it}, {what}" for it in ("tracesync", "Wireshark") for what in ("wall s", "processor s", "KiB")]
+    head = ["MB each", "frame, bytes", "packets", "keys", "output"]
+    head += [f"{it}, {what}" for it in ("tracesync", "Wireshark") for what in ("wall s", "processor s", "KiB", "MB")]
 
     def __init__(self, options: Options) -> None:
         self.options = options
@@ -136,22 +137,26 @@ class Mergecap:
         for size in self.options.frames:
             for has_keys in (True, False):
                 with tempfile.TemporaryDirectory(dir=OUT) as folder:
-                    yield self.row(megabytes, size, has_keys, folder)
+                    yield from self.both_formats(megabytes, size, has_keys, folder)
 
-    def row(self, megabytes: int, size: int, has_keys: bool, folder: str) -> Sequence[object]:
+    def both_formats(self, megabytes: int, size: int, has_keys: bool, folder: str) -> Iterator[Sequence[object]]:
+        """A row for each format of the output; all four commands take turns."""
         paths, each = write_pair(megabytes, size, has_keys, folder)
         declaration = write(f"{folder}/hosts.toml", f"payload_bytes = 8\n{HOSTS}{LINKS}")
         script = write(f"{folder}/script", "".join(f"add {name} {path}\n" for (name, _), path in zip(PAIR, paths)))
-        ways = {
-            "tracesync": [program(), "mergecap", declaration],
-            "wireshark": ["mergecap", "-F", "nsecpcap", "-w", "-", *paths],
-        }
+        formats = (("pcap", "nsecpcap", []), ("pcapng", "pcapng", ["pcapng"]))
+        ways: dict[str, list[str]] = {}
+        for name, theirs, words in formats:
+            ways[f"tracesync-{name}"] = [program(), "mergecap", declaration, *words]
+            ways[f"wireshark-{name}"] = ["mergecap", "-F", theirs, "-w", "-", *paths]
         found = beside(self.options.runs, ways, script)
         want_status(found, script)
         for name in ways:
             if packets_of(output(name)) != 2 * each:
                 fail(f"{output(name)} has {packets_of(output(name))} packets instead of {2 * each}")
-        cells: list[object] = [megabytes, size, 2 * each, "all" if has_keys else "none"]
-        for name, words in ways.items():
-            cells += [f"{found[name].wall:.2f}", f"{found[name].processor:.2f}", kib(peak_of(words, script))]
-        return cells
+        for name, _, _ in formats:
+            cells: list[object] = [megabytes, size, 2 * each, "all" if has_keys else "none", name]
+            for way in (f"tracesync-{name}", f"wireshark-{name}"):
+                cells += [f"{found[way].wall:.2f}", f"{found[way].processor:.2f}", kib(peak_of(ways[way], script))]
+                cells.append(f"{os.path.getsize(output(way)) / 10**6:.1f}")
+            yield cells

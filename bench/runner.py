@@ -13,7 +13,7 @@ The kinds, their sizes, and what stands beside the program:
     trial       numbers; trial.cpp, which computes all rows anew or repairs them
     additions   a number; how the cost of an addition grows, and the steps that trial.cpp counts
     captures    MB; capinfos of Wireshark
-    mergecap    MB; mergecap of Wireshark
+    mergecap    MB; mergecap of Wireshark, to classic pcap, and to pcapng with comments
 
 Each figure is the least of N runs, 3 if it is not said; the runs of the programs take turns. Both must print the
 same, byte for byte, where there is one answer, or the script ends with status 1. A peak of memory is that of a run of

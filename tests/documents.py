@@ -6,7 +6,8 @@
 In a fenced block a line that begins with `$ ` is a command; where it ends with a backslash, it goes on in the next
 line. The lines behind it, up to the next command or the end of the block, are exactly what it prints on the standard
 output; the standard error and the status are not compared. Blocks without a command are passed over, and so is one
-whose fence has the word `unchecked` (a command that needs a network, say).
+whose fence has the word `unchecked` (a command that needs a network, say), or `needs:TOOL` where TOOL is not installed:
+of that a line tells.
 
 Each document gets a copy of the repository's files, so that nothing is left here, and each command a shell of its own
 in its top folder, with no input: what one command writes into a file there, the next ones find. `./tracesync` there
@@ -24,6 +25,7 @@ from dataclasses import dataclass
 
 from support.program import TOP, program, read
 from support.tree import copy_tree
+from support.wireshark import is_there
 
 DOCUMENTS = ("README.md", "docs/GUIDE.md", "docs/VANTAGE.md", "docs/LOGS.md", "docs/PROBLEMS.md")
 # How long a command may take.
@@ -65,12 +67,18 @@ def blocks(lines: Sequence[str]) -> list[Block]:
     return found
 
 
-def commands(lines: Sequence[str]) -> list[Command]:
-    """The commands of a document, each with what it is to print."""
+def lacking(block: Block) -> list[str]:
+    """The tools that a block needs and that are not installed."""
+    needed = [it.removeprefix("needs:") for it in block.words if it.startswith("needs:")]
+    return [it for it in needed if not is_there(it)]
+
+
+def commands(some: Sequence[Block]) -> list[Command]:
+    """The commands of some blocks, each with what it is to print."""
     found: list[Command] = []
-    for block in blocks(lines):
+    for block in some:
         is_command, goes_on = False, False
-        for number, line in enumerate([] if "unchecked" in block.words else block.lines, block.first):
+        for number, line in enumerate(block.lines, block.first):
             if goes_on:
                 found[-1].text += f"\n{line}"
             elif line.startswith("$ "):
@@ -106,7 +114,11 @@ def run(command: Command, folder: str) -> str | None:
 
 def run_document(document: str) -> tuple[int, int]:
     """Runs a document's commands, and returns how many passed and how many failed."""
-    found = commands(read(f"{TOP}/{document}").decode().splitlines())
+    checked = [it for it in blocks(read(f"{TOP}/{document}").decode().splitlines()) if "unchecked" not in it.words]
+    for it in checked:
+        if lacking(it):
+            print(f"{document}:{it.first}: left out, there is no {lacking(it)[0]}")
+    found = commands([it for it in checked if not lacking(it)])
     failed = 0
     with tempfile.TemporaryDirectory() as room:
         copy_tree(f"{room}/repository", program())
