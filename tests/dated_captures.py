@@ -28,9 +28,10 @@ import subprocess
 import sys
 import tempfile
 import tomllib
-from collections.abc import Sequence
+from collections.abc import Iterable, Iterator, Sequence
 from dataclasses import dataclass
 from fractions import Fraction
+from itertools import zip_longest
 
 from support.captures import (
     COOKED, ETHERNET, INTERFACE, SECTION, block, blocks, classic, classic_head, classic_record, cooked, frame,
@@ -56,12 +57,10 @@ ENCAPSULATIONS = {ETHERNET: "ether", COOKED: "linux-sll2"}
 MOST_SHOWN = 2**31 - 1
 
 
-def same(case: str, what: str, found: Sequence[object], wanted: Sequence[object]) -> None:
-    """Raises AssertionError where two lists differ, with the first place where they do."""
-    if found == wanted:
-        return
-    at = next((k for k, pair in enumerate(zip(found, wanted)) if pair[0] != pair[1]), min(len(found), len(wanted)))
-    raise AssertionError((case, what, at, found[at : at + 1], "instead of", wanted[at : at + 1]))
+def same(case: str, what: str, found: Iterable[object], wanted: Iterable[object]) -> None:
+    """Raises AssertionError where two rows of things differ, with the first place where they do."""
+    for at, (one, other) in enumerate(zip_longest(found, wanted)):
+        assert one == other, (case, what, at, one, "instead of", other)
 
 
 # ---- what a session says
@@ -192,6 +191,7 @@ def nanoseconds(said: str) -> int:
 def seen(case: str, outcome: Outcome, lines: Sequence[str]) -> None:
     """Wants the tools of Wireshark to see all of what was written."""
     by_capinfos(case, outcome)
+    interfaces_by_capinfos(case, outcome)
     by_tshark(case, outcome)
     by_filter(case, outcome)
     by_captures(case, outcome, lines)
@@ -200,7 +200,7 @@ def seen(case: str, outcome: Outcome, lines: Sequence[str]) -> None:
 
 
 def by_capinfos(case: str, outcome: Outcome) -> None:
-    """Wants capinfos to tell of these packets and interfaces."""
+    """Wants capinfos to tell of these packets."""
     told, written = summary_of(outcome.path), outcome.written
     links = {it.packet.link for it in written}
     wanted = {
@@ -213,34 +213,42 @@ def by_capinfos(case: str, outcome: Outcome) -> None:
         "Strict time order": "True",
     }
     assert {it: told.get(it) for it in wanted} == wanted, (case, "capinfos tells", told, "instead of", wanted)
-    titles = ("Name", "Description", "Encapsulation", "Capture length", "Time precision", "Number of packets")
+
+
+def interfaces_by_capinfos(case: str, outcome: Outcome) -> None:
+    """Wants capinfos to tell of these interfaces, each with as many packets."""
+    titles = ("Name", "Description", "Capture length", "Time precision", "Number of packets", "Encapsulation")
     found = [[it.get(title, "") for title in titles] for it in interfaces_of(outcome.path)]
-    for it in found:
-        it[2] = it[2].rpartition(" - ")[2].removesuffix(")")
-    numbers = [it.interface for it in written]
-    here = enumerate(outcome.interfaces)
-    shown = [[it.options[2].decode(), it.options[3].decode(), ENCAPSULATIONS[it.link], "0"] for _, it in here]
-    counts = [["nanoseconds (9)", str(numbers.count(n))] for n in range(len(shown))]
-    same(case, "interfaces by capinfos", found, [one + other for one, other in zip(shown, counts)])
+    numbers = [it.interface for it in outcome.written]
+    wanted: list[list[str]] = []
+    for n, it in enumerate(outcome.interfaces):
+        said = [it.options[2].decode(), it.options[3].decode(), "0", "nanoseconds (9)", str(numbers.count(n))]
+        wanted.append([*said, ENCAPSULATIONS[it.link]])
+    # (before the short name of an encapsulation stand a long one and Wireshark's number for it)
+    short = [[*said, encapsulation.rpartition(" - ")[2].removesuffix(")")] for *said, encapsulation in found]
+    same(case, "interfaces by capinfos", short, wanted)
+
+
+def shown(outcome: Outcome) -> Iterator[list[str]]:
+    """What tshark must show of these packets: their numbers, interfaces, dates, lengths and comments."""
+    for n, it in enumerate(outcome.written, 1):
+        options, packet = outcome.interfaces[it.interface].options, it.packet
+        place = [str(n), str(it.interface), options[2].decode(), options[3].decode(), seconds(it.stamp)]
+        yield [*place, str(min(packet.length, MOST_SHOWN)), str(packet.kept), it.options[1].decode()]
 
 
 def by_tshark(case: str, outcome: Outcome) -> None:
     """Wants tshark to show these packets."""
     fields = ["number", "interface_id", "interface_name", "interface_description"]
     fields += ["time_epoch", "len", "cap_len", "comment"]
-    wanted: list[list[str]] = []
-    for n, it in enumerate(outcome.written, 1):
-        options, packet = outcome.interfaces[it.interface].options, it.packet
-        place = [str(n), str(it.interface), options[2].decode(), options[3].decode(), seconds(it.stamp)]
-        wanted.append([*place, str(min(packet.length, MOST_SHOWN)), str(packet.kept), it.options[1].decode()])
-    same(case, "fields of tshark", list(fields_of(outcome.path, [f"frame.{it}" for it in fields])), wanted)
+    same(case, "fields of tshark", fields_of(outcome.path, [f"frame.{it}" for it in fields]), shown(outcome))
 
 
 def by_filter(case: str, outcome: Outcome) -> None:
     """Wants a display filter to find one packet, that in the middle, by the name of its event."""
     middle = len(outcome.written) // 2
     event = outcome.written[middle].options[1].decode().split(" ")[1]
-    told = list(fields_of(outcome.path, ["frame.number"], f'frame.comment contains "tracesync {event} "'))
+    told = fields_of(outcome.path, ["frame.number"], f'frame.comment contains "tracesync {event} "')
     same(case, "packets by a filter", told, [[str(middle + 1)]])
 
 
