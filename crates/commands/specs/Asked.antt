@@ -155,4 +155,4 @@ help_text =
 
 -- the number of the version, by the changelog
 abbrev pub version_text : List ℕ
-version_text = codes "tracesync 29\n"
+version_text = codes "tracesync 30\n"

@@ -6,7 +6,7 @@ const USAGE: &[u8] =
     b"usage: tracesync obey PROBLEM EXEC | solve PROBLEM | ends PROBLEM P Q | verify PROBLEM CERT | session DECL | trial N | widen PROBLEM WHAT.. | judge PROBLEM WIDENING | blame PROBLEM | thin PROBLEM P.. | mergecap DECL [pcapng [EVENT]] | --help | --version\n";
 
 // The number of the newest entry of CHANGELOG.md.
-const VERSION: &[u8] = b"tracesync 29\n";
+const VERSION: &[u8] = b"tracesync 30\n";
 
 // tracesync prints these lines where no program is built.
 const HELP: &[u8] = br"usage: tracesync COMMAND WORD..
