@@ -5,7 +5,7 @@
 
 Without a FAMILY all of them. Each line has the processor seconds of one run at the three sizes, the least of N runs,
 2 if it is not said, and the exponent of the growth from n to 4n, beside that of n log n. Above 1.3 the line says so,
-but for the three families that are known to grow with the square (docs/PERFORMANCE.md). PROGRAM names the program,
+but for the two families that are known to grow with the square (docs/PERFORMANCE.md). PROGRAM names the program,
 else it is the one that is built here.
 """
 
@@ -263,7 +263,7 @@ FAMILIES: dict[Callable[[int], Words], int] = {
     no_time_over_many_clocks: 1 << 11,
     sender_at_half_rate: 1 << 11,
 }
-QUADRATIC = {one_stamp, clocks_and_additions, sender_at_half_rate}
+QUADRATIC = {one_stamp, clocks_and_additions}
 
 
 def measure(family: Callable[[int], Words], n: int, runs: int) -> list[str]:

@@ -184,15 +184,22 @@ inline std::vector<Link> links_of(const Problem &problem) {
     return links;
 }
 
-// How far each clock is ahead of others, in ns. Clocks are reached breadth-first over messages, by the least link of
-// each pair, and time and again from the first one that has not been reached.
-inline std::vector<Units> clock_offsets(const Problem &problem) {
+// How far a clock is ahead of others, in ns, and how many clocks were reached before it.
+struct Offset {
+    Units ahead;
+    std::uint32_t turn;
+};
+
+// The offset of each clock. Clocks are reached breadth-first over messages, by the least link of each pair, and time and
+// again from the first one that has not been reached.
+inline std::vector<Offset> clock_offsets(const Problem &problem) {
     const auto links = links_of(problem);
-    std::vector<std::optional<Units>> ahead(problem.clocks.size());
+    std::vector<std::optional<Offset>> found(problem.clocks.size());
     std::queue<std::uint32_t> reached;
-    const auto reach = [&](std::uint32_t clock, Units by) {
-        if (!ahead[clock]) {
-            ahead[clock] = by;
+    std::uint32_t turns = 0;
+    const auto reach = [&](std::uint32_t clock, Units ahead) {
+        if (!found[clock]) {
+            found[clock] = {ahead, turns++};
             reached.push(clock);
         }
     };
@@ -202,19 +209,19 @@ inline std::vector<Units> clock_offsets(const Problem &problem) {
             const auto clock = reached.front();
             auto link = std::partition_point(links.begin(), links.end(), [&](const Link &l) { return l.from < clock; });
             for (; link != links.end() && link->from == clock; ++link) {
-                reach(link->to, *ahead[clock] + link->ahead);
+                reach(link->to, found[clock]->ahead + link->ahead);
             }
         }
     }
-    std::vector<Units> offsets;
-    offsets.reserve(ahead.size());
-    for (const auto &offset : ahead) {
+    std::vector<Offset> offsets;
+    offsets.reserve(found.size());
+    for (const auto &offset : found) {
         offsets.push_back(*offset);
     }
     return offsets;
 }
 
-// An event behind its time: its stamp less the offset of its clock, in ns.
+// An event behind its time: its stamp less the offset that its clock has then, in ns.
 struct Timed {
     Units time;
     std::uint32_t event;
@@ -223,29 +230,40 @@ struct Timed {
     bool operator>(const Timed &other) const { return other < *this; }
 };
 
+// An event that comes next behind another, and whether it does so by its clock, or by a message.
+struct Successor {
+    bool by_clock;
+    std::uint32_t event;
+
+    bool operator<(const Successor &other) const {
+        return std::tie(by_clock, event) < std::tie(other.by_clock, other.event);
+    }
+};
+
 // The order in which events come in: upward on each clock, a send before its receive, and otherwise by time.
 class Merge {
   public:
     explicit Merge(const Problem &problem)
-        : problem_{problem}, timed_(problem.events.size()), after_(problem.events.size()),
+        : problem_{problem}, offsets_{clock_offsets(problem)}, after_(problem.events.size()),
           waits_for_(problem.events.size(), 0), is_queued_(problem.events.size(), false) {
-        const auto offsets = clock_offsets(problem);
-        for (std::uint32_t k = 0; k < problem.events.size(); ++k) {
-            const auto &event = problem.events[k];
-            timed_[k] = {event.stamp - offsets[event.clock], k};
-        }
         follow_clocks();
         for (const auto &message : problem.messages) {
-            follow(message.send, message.receive);
+            follow(message.send, {false, message.receive});
+        }
+        for (auto &after : after_) {
+            std::sort(after.begin(), after.end());
         }
     }
 
     // The place of each event in the order.
     std::vector<std::uint32_t> event_ranks() {
-        auto by_time = timed_;
+        std::vector<Timed> by_time(problem_.events.size());
+        for (std::uint32_t event = 0; event < by_time.size(); ++event) {
+            by_time[event] = timed(event);
+        }
         std::sort(by_time.begin(), by_time.end());
-        for (const auto &timed : by_time) {
-            push_ready(timed.event);
+        for (const auto &entry : by_time) {
+            push_ready(entry.event);
         }
         std::vector<std::uint32_t> ranks(problem_.events.size());
         auto first = by_time.begin();
@@ -259,8 +277,11 @@ class Merge {
             ready_.pop();
             ranks[event] = rank;
             for (const auto after : after_[event]) {
-                --waits_for_[after];
-                push_ready(after);
+                if (!after.by_clock) {
+                    follow_message(event, after.event);
+                }
+                --waits_for_[after.event];
+                push_ready(after.event);
             }
         }
         return ranks;
@@ -278,14 +299,36 @@ class Merge {
         });
         for (std::size_t k = 1; k < events.size(); ++k) {
             if (problem_.events[events[k - 1]].clock == problem_.events[events[k]].clock) {
-                follow(events[k - 1], events[k]);
+                follow(events[k - 1], {true, events[k]});
             }
         }
     }
 
-    void follow(std::uint32_t before, std::uint32_t after) {
+    void follow(std::uint32_t before, Successor after) {
         after_[before].push_back(after);
-        ++waits_for_[after];
+        ++waits_for_[after.event];
+    }
+
+    Timed timed(std::uint32_t event) const {
+        const auto &it = problem_.events[event];
+        return {it.stamp - offsets_[it.clock].ahead, event};
+    }
+
+    // Of the two clocks of a message the one that was reached later takes its offset from the message.
+    void follow_message(std::uint32_t send, std::uint32_t receive) {
+        const auto sender = offsets_[problem_.events[send].clock].turn;
+        const auto receiver = offsets_[problem_.events[receive].clock].turn;
+        if (sender < receiver) {
+            join(send, receive);
+        } else if (receiver < sender) {
+            join(receive, send);
+        }
+    }
+
+    // The clock of the second event takes the offset by which it has the time of the first one.
+    void join(std::uint32_t first, std::uint32_t second) {
+        const auto &it = problem_.events[second];
+        offsets_[it.clock].ahead = it.stamp - timed(first).time;
     }
 
     void push_ready(std::uint32_t event) {
@@ -296,14 +339,13 @@ class Merge {
 
     void push(std::uint32_t event) {
         is_queued_[event] = true;
-        ready_.push(timed_[event]);
+        ready_.push(timed(event));
     }
 
     const Problem &problem_;
-    // The events by their places.
-    std::vector<Timed> timed_;
+    std::vector<Offset> offsets_;
     // Which events come next behind each, and how many each waits for.
-    std::vector<std::vector<std::uint32_t>> after_;
+    std::vector<std::vector<Successor>> after_;
     std::vector<std::uint32_t> waits_for_;
     std::vector<bool> is_queued_;
     std::priority_queue<Timed, std::vector<Timed>, std::greater<Timed>> ready_;

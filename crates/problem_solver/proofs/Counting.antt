@@ -1,6 +1,7 @@
 -- Events that are queued and taken out, each once.
-use Rattle.std.proofs.Common.{◌≡◌, ◌<◌, ◌+◌, ℕ, suc, Bool, true, false, List, [], ◌∷◌, length, get_or, set, replicate, Option, Some, None, refl, ◌∙◌, ap, arith}
+use Rattle.std.proofs.Common.{◌≡◌, ◌<◌, ◌+◌, ℕ, zero, suc, Bool, true, false, List, [], ◌∷◌, length, get_or, set, replicate, Option, Some, None, refl, sym, ◌∙◌, ap, arith}
 use Rattle.std.specs.Prelude.{ℤ}
+use Rattle.std.proofs.lemmas.List.{length-replicate}
 use Rattle.std.proofs.lemmas.List.Sums.{sum_by-set}
 use Rattle.std.proofs.lemmas.List.Folds.{sum_by-replicate}
 use Rattle.std.proofs.lemmas.Option.{slice_get_within, slice_get-get_or, get_or_from_slice_get}
@@ -28,10 +29,30 @@ none_ready (Some time ∷ ready) empty = absurd (empty 0 time refl)
 pub all_left : (n : ℕ) (ready : List (Option ℤ)) → IsEmpty ready → not_queued (replicate n false) + are_ready ready ≡ n
 all_left n ready empty = omega (arith, count_none n, none_ready ready empty)
 
+free_where_none_waits : (ready : List (Option ℤ)) → IsEmpty ready → (event : ℕ) → event < length ready → IsFreeNode ready event
+free_where_none_waits [] empty event inside = absurd (omega (arith, inside))
+free_where_none_waits (None ∷ ready) empty zero inside = refl
+free_where_none_waits (Some time ∷ ready) empty zero inside = absurd (empty 0 time refl)
+free_where_none_waits (key ∷ ready) empty (suc event) inside =
+    free_where_none_waits ready (λ node waits. empty (suc node) waits) event (omega (arith, inside))
+
+-- a queue in which nothing has been queued
+pub starts : (n : ℕ) (ready : List (Option ℤ)) (waiting : List ℕ) → IsEmpty ready → length ready ≡ n → length waiting ≡ n → IsQueue n ready (replicate n false) waiting
+starts n ready waiting empty room counts =
+    let long = length-replicate n false in
+    record {
+      times_each = sym long;
+      waiting_each = counts ∙ sym long;
+      room = room ∙ sym long;
+      free = λ event is. (
+          let inside = slice_get_within (replicate n false) event false is in
+          free_where_none_waits ready empty event (omega (arith, inside, long, room)));
+    }
+
 pub same_turns : (a b k l : ℕ) → a ≡ b → k ≡ l → ◌≡◌ {A = Turns} (record { all = a; left = k }) (record { all = b; left = l })
 same_turns a b k l same left = rw (same, left) refl
 
-module _ (times : List ℤ) (ready : List (Option ℤ)) (flags : List Bool) (waiting : List ℕ) (are : IsQueue times ready flags waiting) (event : ℕ) where
+module _ (times : ℕ) (ready : List (Option ℤ)) (flags : List Bool) (waiting : List ℕ) (are : IsQueue times ready flags waiting) (event : ℕ) where
   module _ (time : ℤ) (inside : event < length flags) (is : get_or flags event false ≡ false) where
     pub free_yet : IsFreeNode ready event
     free_yet = are.free event (slice_get-get_or flags event false inside ∙ ap Some is)

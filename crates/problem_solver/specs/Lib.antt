@@ -5,3 +5,4 @@ pub mod GraphSolution
 pub mod Turns
 pub mod Offsets
 pub mod Queues
+pub mod Times

@@ -1,7 +1,8 @@
 -- Clocks that reach each other by messages.
-use Rattle.std.specs.Prelude.{◌≡◌, ℕ, ◌+◌, ◌<◌, ℤ, List, length, All, Bool, true, false}
+use Rattle.std.specs.Prelude.{◌≡◌, ℕ, ◌+◌, ◌<◌, List, length, All, Bool, true, false}
 use Rattle.std.specs.List.{sum_by}
 use Rattle.problem_solver.specs.declared.offsets.Link.{Link}
+use Rattle.problem_solver.specs.declared.offsets.Offset.{Offset}
 
 -- links lead to clocks
 abbrev pub LeadToClocks : ℕ → List Link → Type 0
@@ -16,8 +17,8 @@ unset false = 1
 abbrev pub count_unset : List Bool → ℕ
 count_unset flags = sum_by unset flags
 
--- those reached are clocks, as many as have their flag, and each clock has a number
-pub record AreReached (order : List ℕ) (reached : List Bool) (ahead : List ℤ) : Type 0 where
-  pub one_each : length ahead ≡ length reached
+-- those reached are clocks, as many as have their flag, and each clock has an offset
+pub record AreReached (order : List ℕ) (reached : List Bool) (offsets : List Offset) : Type 0 where
+  pub one_each : length offsets ≡ length reached
   pub clocks : All (λ clock. clock < length reached) order
   pub counted : length order + count_unset reached ≡ length reached

@@ -27,8 +27,8 @@ abbrev pub not_queued : List Bool → ℕ
 not_queued queued = count_unset queued
 
 -- each event has a time and a count, and room; one that has not been queued is not ready
-pub record IsQueue (times : List ℤ) (ready : List (Option ℤ)) (queued : List Bool) (waiting : List ℕ) : Type 0 where
-  pub times_each : length times ≡ length queued
+pub record IsQueue (times : ℕ) (ready : List (Option ℤ)) (queued : List Bool) (waiting : List ℕ) : Type 0 where
+  pub times_each : times ≡ length queued
   pub waiting_each : length waiting ≡ length queued
   pub room : length ready ≡ length queued
   pub free : (event : ℕ) → slice_get queued event ≡ Some false → IsFreeNode ready event

@@ -16,6 +16,15 @@ pub struct Link {
     ahead: i128,
 }
 
+/// How far a clock is ahead of others.
+#[derive(Clone, Copy)]
+pub struct Offset {
+    /// In ns.
+    pub ahead: i128,
+    /// How many clocks had been reached before it.
+    pub turn: usize,
+}
+
 // Appends a message, as both its clocks see it.
 fn push_links(links: &mut Vec<Link>, send: &Event, receive: &Event) -> Result<(), AllocError>
     ensures { OnOk result ((clocks : ℕ) → LeadToClocks clocks links.old.items → send.now.clock < clocks → receive.now.clock < clocks
@@ -56,7 +65,7 @@ struct Reached {
     order: Vec<u32>,
     // Of each clock.
     reached: Vec<bool>,
-    ahead: Vec<i128>,
+    offsets: Vec<Offset>,
     // Of the order, those before this place had their turn.
     turn: usize,
 }
@@ -70,7 +79,7 @@ impl Model for Reached {
 
     ghost view = { λ r. record { all = length r.reached.items; left = length r.reached.items - r.turn } };
 
-    ghost invariant = { λ r. AreReached r.order.items r.reached.items r.ahead.items };
+    ghost invariant = { λ r. AreReached r.order.items r.reached.items r.offsets.items };
 }
 
 impl Reached {
@@ -79,12 +88,12 @@ impl Reached {
     {
         let mut reached = Vec::new(alloc);
         reached.resize(clocks, false)?;
-        let mut ahead = Vec::new(alloc);
-        ahead.resize(clocks, 0)?;
+        let mut offsets = Vec::new(alloc);
+        offsets.resize(clocks, Offset { ahead: 0, turn: 0 })?;
         Ok(Reached {
             order: Vec::new(alloc),
             reached,
-            ahead,
+            offsets,
             turn: 0,
         })
     }
@@ -97,9 +106,10 @@ impl Reached {
         if self.reached[clock as usize] {
             return Ok(());
         }
+        let turn = self.order.len();
         self.order.push(clock)?;
         self.reached[clock as usize] = true;
-        self.ahead[clock as usize] = ahead;
+        self.offsets[clock as usize] = Offset { ahead, turn };
         Ok(())
     }
 
@@ -110,7 +120,7 @@ impl Reached {
     {
         let clock = *self.order.get(self.turn)?;
         self.turn += 1;
-        Some((clock, self.ahead[clock as usize]))
+        Some((clock, self.offsets[clock as usize].ahead))
     }
 
     // Reaches the clocks that messages join with this one.
@@ -141,16 +151,16 @@ impl Reached {
     }
 
     // How far each clock is ahead.
-    fn into_ahead(self) -> Vec<i128>
+    fn into_offsets(self) -> Vec<Offset>
         ensures { length result.items ≡ self.all }
     {
-        self.ahead
+        self.offsets
     }
 }
 
-/// How far each clock is ahead of others, in ns, by one message for each: clocks are reached breadth-first over messages,
+/// How far each clock is ahead of others, by one message for each: clocks are reached breadth-first over messages,
 /// time and again from the first one that has not been reached. The delay of a message counts as a part of it.
-pub fn clock_offsets(alloc: Global, p: &Problem) -> Result<Vec<i128>, AllocError>
+pub fn clock_offsets(alloc: Global, p: &Problem) -> Result<Vec<Offset>, AllocError>
     ensures { IfOk result (λ offsets. length offsets.items ≡ length p.now.clocks) }
 {
     let clocks = p.clocks().len();
@@ -160,5 +170,5 @@ pub fn clock_offsets(alloc: Global, p: &Problem) -> Result<Vec<i128>, AllocError
         reached.reach(clock as u32, 0)?;
         reached.spread_all(&links)?;
     }
-    Ok(reached.into_ahead())
+    Ok(reached.into_offsets())
 }

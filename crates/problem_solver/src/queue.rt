@@ -2,6 +2,7 @@
 ghost use Rattle.std.specs.Prelude.{◌≡◌, ◌+◌, ◌<◌, ◌^◌, length, IfOk, IfSome, IfNone};
 ghost use Rattle.problem_solver.specs.Queues.{AreSuccessions};
 
+use crate::times::Times;
 use atto::Steps;
 use frontier::Frontier;
 use std::alloc::{AllocError, Global};
@@ -16,6 +17,8 @@ pub struct Succession {
     pub before: u32,
     /// The place of the event behind it.
     pub after: u32,
+    /// Whether their clocks say so, and no message.
+    pub by_clocks: bool,
 }
 
 /// The events that are ready, by time, and how many each of the others waits for.
@@ -24,8 +27,7 @@ pub struct Succession {
 /// been taken out. A call names an event below their number, so no look-up misses.
 #[derive(Drop)]
 pub struct Queue {
-    // Of each event, in ns, by whatever clock all events are compared by.
-    times: Vec<i128>,
+    times: Times,
     ready: Frontier,
     queued: Vec<bool>,
     waiting: Vec<u32>,
@@ -40,7 +42,7 @@ impl Model for Queue {
 
     ghost view = { λ q. record { all = length q.queued.items; left = not_queued q.queued.items + are_ready q.ready } };
 
-    ghost invariant = { λ q. IsQueue q.times.items q.ready q.queued.items q.waiting.items };
+    ghost invariant = { λ q. IsQueue q.times q.ready q.queued.items q.waiting.items };
 }
 
 // How many others each event waits for.
@@ -59,15 +61,11 @@ fn waits(alloc: Global, events: usize, successions: &[Succession]) -> Result<Vec
 
 impl Queue {
     /// Each event, by these times, waits for those that it comes next behind, and none is queued.
-    pub fn new(
-        alloc: Global,
-        times: Vec<i128>,
-        successions: &[Succession],
-    ) -> Result<Queue, AllocError>
-        requires few { length times.items < 2 ^ 32 }
-        requires successions { AreSuccessions (length times.items) successions.now }
-        ensures all { IfOk result (λ queue. queue.all ≡ length times.items) }
-        ensures left { IfOk result (λ queue. queue.left ≡ length times.items) }
+    pub fn new(alloc: Global, times: Times, successions: &[Succession]) -> Result<Queue, AllocError>
+        requires few { times < 2 ^ 32 }
+        requires successions { AreSuccessions times successions.now }
+        ensures all { IfOk result (λ queue. queue.all ≡ times) }
+        ensures left { IfOk result (λ queue. queue.left ≡ times) }
     {
         let events = times.len();
         let waiting = waits(alloc, events, successions)?;
@@ -81,7 +79,7 @@ impl Queue {
         })
     }
 
-    /// Queues an event, unless it has been queued.
+    /// Queues an event by the time that it has now, unless it has been queued.
     pub fn push(&mut self, event: u32)
         requires { event < self.old.all }
         ensures { self.new ≡ self.old }
@@ -89,7 +87,7 @@ impl Queue {
         if self.queued[event as usize] {
             return;
         }
-        self.ready.put(event, self.times[event as usize]);
+        self.ready.put(event, self.times.of(event));
         self.queued[event as usize] = true;
     }
 
@@ -124,9 +122,11 @@ impl Queue {
         self.push_ready(event);
     }
 
-    /// Those that come next behind an event wait for it no longer, and are queued where they wait for no other.
+    /// Those that come next behind an event wait for it no longer, and are queued where they wait for no other. Offsets
+    /// follow the messages that it sends.
     pub fn release(&mut self, event: u32, successions: &[Succession])
-        requires { AreSuccessions self.old.all successions.now }
+        requires event { event < self.old.all }
+        requires successions { AreSuccessions self.old.all successions.now }
         ensures { self.new ≡ self.old }
     {
         let first = successions.partition_point(|pair| pair.before < event);
@@ -134,6 +134,9 @@ impl Queue {
             let pair = successions[place];
             if pair.before != event {
                 break;
+            }
+            if !pair.by_clocks {
+                self.times.follow_message(event, pair.after);
             }
             self.lessen(pair.after);
         }

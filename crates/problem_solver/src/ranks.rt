@@ -2,8 +2,8 @@
 ghost use Rattle.std.specs.Prelude.{◌≡◌, ◌+◌, ◌<◌, ◌^◌, ◌≤◌, ℕ, length, All, IfOk, OnOk};
 ghost use Rattle.problem_solver.specs.Queues.{AreSuccessions, AreEventPlaces};
 
-use crate::offsets::clock_offsets;
 use crate::queue::{Queue, Succession};
+use crate::times::Times;
 use atto::Steps;
 use problem::Problem;
 use std::alloc::{AllocError, Global};
@@ -51,6 +51,7 @@ fn push_clocks(pairs: &mut Vec<Succession>, all: &[Stamped]) -> Result<(), Alloc
             pairs.push(Succession {
                 before: before.event,
                 after: after.event,
+                by_clocks: true,
             })?;
         }
     }
@@ -73,6 +74,7 @@ fn push_between(
         pairs.push(Succession {
             before: all[behind - 1].event,
             after: all[first].event,
+            by_clocks: true,
         })?;
     }
     Ok(())
@@ -103,12 +105,13 @@ fn push_messages(pairs: &mut Vec<Succession>, p: &Problem) -> Result<(), AllocEr
         pairs.push(Succession {
             before: message.send,
             after: message.receive,
+            by_clocks: false,
         })?;
     }
     Ok(())
 }
 
-// Which events come next behind which, in the order of those before.
+// Which events come next behind which, in the order of those before; those by messages come before those by clocks.
 fn successions(alloc: Global, p: &Problem) -> Result<Vec<Succession>, AllocError>
     ensures { IfOk result (λ pairs. AreSuccessions (length p.now.events) pairs.items) }
 {
@@ -117,35 +120,19 @@ fn successions(alloc: Global, p: &Problem) -> Result<Vec<Succession>, AllocError
     push_clocks(&mut pairs, &all)?;
     push_follows(&mut pairs, p, &all)?;
     push_messages(&mut pairs, p)?;
-    pairs.sort_unstable_by_key(|pair| (pair.before, pair.after));
+    pairs.sort_unstable_by_key(|pair| (pair.before, pair.by_clocks, pair.after));
     Ok(pairs)
 }
 
-// The time of each event: its stamp, with the offset of its clock taken off, in ns.
-fn event_times(alloc: Global, p: &Problem) -> Result<Vec<i128>, AllocError>
-    ensures one_each { IfOk result (λ times. length times.items ≡ length p.now.events) }
-    ensures few { IfOk result (λ times. length times.items < 2 ^ 32) }
-{
-    let offsets = clock_offsets(alloc, p)?;
-    let mut times = Vec::new(alloc);
-    for event in p.events() {
-        let stamp = i128::from(event.stamp.get());
-        times.push(stamp.saturating_sub(offsets[event.clock as usize]))?;
-    }
-    Ok(times)
-}
-
 // The events by time.
-fn by_time(alloc: Global, times: &[i128]) -> Result<Vec<Timed>, AllocError>
-    requires { length times.now < 2 ^ 32 }
-    ensures { IfOk result (λ timed. All (λ entry. entry.event < length times.now) timed.items) }
+fn by_time(alloc: Global, times: &Times) -> Result<Vec<Timed>, AllocError>
+    requires { times.now < 2 ^ 32 }
+    ensures { IfOk result (λ timed. All (λ entry. entry.event < times.now) timed.items) }
 {
     let mut timed = Vec::new(alloc);
-    for (place, time) in times.iter().enumerate() {
-        timed.push(Timed {
-            time: *time,
-            event: place as u32,
-        })?;
+    for event in 0..times.len() as u32 {
+        let time = times.of(event);
+        timed.push(Timed { time, event })?;
     }
     timed.sort_unstable_by_key(|entry| (entry.time, entry.event));
     Ok(timed)
@@ -207,7 +194,7 @@ fn event_order<L: Ledger>(
     ensures once { IfOk result (λ order. length order.items ≤ length p.now.events) }
 {
     let pairs = successions(alloc, p)?;
-    let times = event_times(alloc, p)?;
+    let times = Times::new(alloc, p)?;
     let timed = by_time(alloc, &times)?;
     let mut queue = Queue::new(alloc, times, &pairs)?;
     let mut order = Vec::new(alloc);

@@ -33,6 +33,28 @@ const CHAIN_PROBLEM: &str =
     "problem 1\nclock a 0 0 0 0\nclock b 0 0 0 0\nclock c 0 0 0 0\nevent c#1 c 700\nevent c#2 c 690\nevent b#1 b 300\n\
     event b#2 b 310\nevent a#1 a 0\nevent a#2 a 15\nevent a#3 a 25\nmessage a#1 b#1 0 none\nmessage b#2 c#1 0 none\nend\n";
 
+// The later clock runs at half the rate and sends: its offset follows.
+const SLOW_SENDER_PROBLEM: &str =
+    "problem 1\nclock a 0 0 0 0\nclock b 0 0 0 0\nevent b#1 b 0\nevent b#2 b 5\nevent b#3 b 100\nevent a#1 a 10\n\
+    event a#2 a 20\nevent a#3 a 210\nmessage b#1 a#1 0 none\nmessage b#3 a#3 0 none\nend\n";
+
+// The same, but it receives, and a clock that no message joins stands beside.
+const SLOW_RECEIVER_PROBLEM: &str =
+    "problem 1\nclock a 0 0 0 0\nclock b 0 0 0 0\nclock c 0 0 0 0\nevent b#1 b 0\nevent b#2 b 5\nevent b#3 b 100\n\
+    event a#1 a 10\nevent a#2 a 20\nevent a#3 a 210\nevent c#1 c 25\nmessage a#1 b#1 0 none\n\
+    message a#3 b#3 0 none\nend\n";
+
+// The second clock is reached behind the third one, and follows it.
+const REACHED_LATER_PROBLEM: &str =
+    "problem 1\nclock a 0 0 0 0\nclock b 0 0 0 0\nclock c 0 0 0 0\nevent a#1 a 0\nevent c#1 c 10\nevent b#1 b 0\n\
+    event c#2 c 20\nevent b#2 b 200\nevent c#3 c 120\nevent c#4 c 130\nevent b#3 b 220\nevent a#2 a 215\n\
+    message a#1 c#1 0 none\nmessage b#1 c#2 0 none\nmessage b#2 c#3 0 none\nend\n";
+
+// A message from a clock to itself moves no offset.
+const AT_HOME_PROBLEM: &str =
+    "problem 1\nclock a 0 0 0 0\nclock b 0 0 0 0\nevent a#1 a 0\nevent b#1 b 50\nevent a#2 a 100\n\
+    message a#1 a#2 0 none\nend\n";
+
 // A receive waits for its send and for the event before it.
 const WAITING_PROBLEM: &str =
     "problem 1\nclock a 0 0 0 0\nclock b 0 0 0 0\nclock c 0 0 0 0\nevent a#1 a 0\nevent b#1 b 1\nevent c#1 c 50\n\
@@ -49,12 +71,16 @@ const FOLLOWING_PROBLEM: &str =
     event d#1 d 15\nevent a#1 a 10\nevent a#2 a 20\nevent c#1 c 1\nevent c#2 c 2\nend\n";
 
 // Problems, and the rank of each of their events.
-const RANKS: [(&str, &[u32]); 8] = [
+const RANKS: [(&str, &[u32]); 12] = [
     (UNJOINED_PROBLEM, &[3, 0, 2, 1]),
     (AHEAD_PROBLEM, &[0, 3, 1, 2, 4]),
     (BEHIND_PROBLEM, &[0, 3, 1, 2, 4]),
     (PAIRS_PROBLEM, &[2, 3, 5, 0, 1, 4]),
     (CHAIN_PROBLEM, &[4, 0, 2, 3, 1, 5, 6]),
+    (SLOW_SENDER_PROBLEM, &[0, 2, 4, 1, 3, 5]),
+    (SLOW_RECEIVER_PROBLEM, &[1, 2, 6, 0, 3, 5, 4]),
+    (REACHED_LATER_PROBLEM, &[0, 1, 2, 3, 4, 5, 6, 7, 8]),
+    (AT_HOME_PROBLEM, &[0, 1, 2]),
     (WAITING_PROBLEM, &[0, 1, 2, 3, 4]),
     (RING_PROBLEM, &[0, 1, 2, 3, 4]),
     (FOLLOWING_PROBLEM, &[1, 0, 2, 3, 4]),

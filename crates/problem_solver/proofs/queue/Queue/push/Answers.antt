@@ -1,5 +1,4 @@
-use Rattle.std.proofs.Common.{◌≡◌, ◌<◌, ◌∙◌, length, get_or, false, true, sym, subst, to_z, of_z}
-use Rattle.std.specs.Int.{w128}
+use Rattle.std.proofs.Common.{◌≡◌, ◌<◌, ◌∙◌, length, get_or, false, true, sym, subst}
 use Rattle.std.proofs.lemmas.List.{length-set, get_or_default}
 use Rattle.problem_solver.specs.Turns.{Turns}
 use Rattle.problem_solver.proofs.Counting.{same_turns, left_same}
@@ -12,5 +11,5 @@ returns c =
     let inside : event < length i.queued.items = subst (λ (t : Turns). event < t.all) (sym c.self.view_is) c.requires in
     let is : get_or i.queued.items event false ≡ false = get_or_default i.queued.items event false c.index.result.now inside ∙ sym c.index.ensures ∙ c.if-index.false in
     same_turns _ _ _ _ (length-set i.queued.items event true)
-    (rw (c.put.ensures) (left_same i.times.items i.ready i.queued.items i.waiting.items c.self.invariant event (to_z w128 (of_z w128 c.index-2.result.now)) inside is))
+    (rw (c.put.ensures) (left_same i.times i.ready i.queued.items i.waiting.items c.self.invariant event _ inside is))
     ∙ c.self.view_is
