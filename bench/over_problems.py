@@ -225,7 +225,7 @@ class Ends:
 
 
 class Widen:
-    """`widen` beside rounds.cpp, which searches in the same way, over three kinds of traces: one without a
+    """`widen` beside rounds.cpp, which searches by rounds alone, over three kinds of traces: one without a
     contradiction, one in which a link declares too small a greatest delay, and one-way messages to a clock that
     declares too small a drift."""
 

@@ -1,6 +1,6 @@
 -- From a line for each candidate to the whole text.
 use Rattle.std.proofs.Common.{◌≡◌, ◌<◌, ◌≤◌, ◌+◌, ℕ, zero, suc, List, [], ◌∷◌, ◌++◌, length, drop, get_or, Option, Some, None, append_assoc, codes, refl, sym, ◌∙◌, ap, subst, arith, inl, inr}
-use Rattle.line_format.specs.Words.{words, line_of}
+use Rattle.line_format.specs.Words.{words}
 use Rattle.atto.specs.Decimal.{decimal_of}
 use Rattle.problem_model.specs.declared.items.Clock.{Clock}
 use Rattle.problem_model.specs.declared.items.Follow.{Follow}
@@ -89,16 +89,17 @@ healed p (x, execution) = (x, subst (λ (q : ProblemLists). IsExecution q x) (no
 pub none_text : (p : ProblemLists) → HasExecution (Delays links.All) p 0 → IsBlameText p (codes "blame none\n")
 none_text p heals = let x = healed p heals in inl (x.0, x.1, refl)
 
-pub blamed_text : (p : ProblemLists) (text : List ℕ) → (HasExecution (Delays links.All) p 0 → ⊥) → IsBlamedUpTo p [] text → IsBlameText p (text ++ codes "end\n")
-blamed_text p text none so_far = inr ((λ x execution. none (x, subst (λ (q : ProblemLists). IsExecution q x) (sym (not_widened p)) execution)), to_last p text so_far)
+pub blamed_text : (p : ProblemLists) (text : List ℕ) → (HasExecution (Delays links.All) p 0 → ⊥) → Blames p (candidates p) text → IsBlameText p text
+blamed_text p text none blames = inr ((λ x execution. none (x, subst (λ (q : ProblemLists). IsExecution q x) (sym (not_widened p)) execution)), blames)
 
 -- ---- what was found heals by nothing exactly where it says 0
-pub by_none : (what : What) (p : ProblemLists) (extra : ℕ) → IsLeastWidening what p extra → extra ≡ 0 → HasExecution what p 0
-by_none what p extra least is = subst (HasExecution what p) is least.heals
+pub by_none : (what : What) (p : ProblemLists) (extra : Option ℕ) → IsHealing p what extra → extra ≡ Some 0 → HasExecution what p 0
+by_none what p extra healing is = let least : IsLeastWidening what p 0 = subst (IsHealing p what) is healing in least.heals
 
-pub by_some : (what : What) (p : ProblemLists) (extra : ℕ) → IsLeastWidening what p extra → (extra ≡ 0 → ⊥) → HasExecution what p 0 → ⊥
-by_some what p extra least other heals = least.least 0 (positive extra other) heals
-  where
-    positive : (n : ℕ) → (n ≡ 0 → ⊥) → 0 < n
-    positive zero differs = absurd (differs refl)
-    positive (suc n) differs = omega arith
+positive : (n : ℕ) → (n ≡ 0 → ⊥) → 0 < n
+positive zero differs = absurd (differs refl)
+positive (suc n) differs = omega arith
+
+pub by_other : (what : What) (p : ProblemLists) (extra : Option ℕ) → IsHealing p what extra → (extra ≡ Some 0 → ⊥) → HasExecution what p 0 → ⊥
+by_other what p None none other heals = none 0 (omega arith) heals
+by_other what p (Some e) least other heals = least.least 0 (positive e (λ is. other (ap Some is))) heals

@@ -1,21 +1,15 @@
 -- What is found is a widening of the problem that shows what it should, and its text is one that is read again.
 use Rattle.std.proofs.Common.{◌≡◌, ◌<◌, ◌≤◌, ◌+◌, ◌-◌, ◌*◌, ◌^◌, ℕ, List, [], ◌∷◌, length, codes, Option, Some, None, Result, Ok, Err, refl, sym, ◌∙◌, ap, subst, arith, inl, inr, length-append}
-use Rattle.std.specs.Prelude.{ℤ, pos, neg_ℤ, ◌⊎◌, All, IfSome}
+use Rattle.std.specs.Prelude.{ℤ, ◌⊎◌, All, IfSome}
 use Rattle.std.specs.List.{flat_map}
 use Rattle.std.proofs.lemmas.List.{length-map}
 use Rattle.std.proofs.lemmas.List.Elements.{All-nil, All-cons}
-use Rattle.atto.specs.Decimal.{decimal_of}
 use Rattle.atto.proofs.DecimalLemmas.{length-decimal_of-le}
 use Rattle.line_format.specs.Words.{line_of}
 use Rattle.line_format.specs.Format.{most_text_bytes}
 use Rattle.line_format.proofs.Lengths.{sized}
-use Rattle.problem_model.specs.declared.items.Message.{Message}
 use Rattle.problem_model.specs.declared.items.Node.{Node}
-use Rattle.problem_model.specs.declared.items.Node.TheVariants as nodes
-use Rattle.problem_model.specs.declared.items.Bound.{Bound}
-use Rattle.problem_model.specs.declared.items.Bound.TheVariants.{SpanMost, SpanLeast, Late, Early, Follow, DelayMost, DelayLeast}
 use Rattle.problem_model.specs.Problem.{ProblemLists, IsProblem}
-use Rattle.problem_model.specs.Bounds.{Constraint, Declares}
 use Rattle.problem_model.specs.ExecutionText.{value_lines}
 use Rattle.problem_model.specs.Nodes.{Reading, AreReadings, nodes_of}
 use Rattle.problem.proofs.ListedNodes.{few_nodes}
@@ -42,7 +36,7 @@ use Rattle.widen.specs.Least.{most_extra, IsLeastWidening, HasNoWidening}
 use Rattle.widen.specs.declared.widening.StatedWidening.{StatedWidening}
 use Rattle.widen.specs.Named.{NamesWhat, IsKindOfClocks, IsKindOfLinks, AreStated, stated_words}
 use Rattle.widen.specs.Widening.{HasCycle, IsWideningOf, ShowsBelow, ShowsWidening}
-use Rattle.widen.specs.WideningText.{widening_head, least_word, least_words, least_line, cycle_lines, widening_lines, widening_text}
+use Rattle.widen.specs.WideningText.{widening_head, least_word, least_line, cycle_lines, widening_lines, widening_text}
 use Rattle.widen.specs.ReadsWidening.{FitsCycle, FitsWidening, IsWideningTextOf}
 use Rattle.widen.specs.JudgedText.{JudgesText}
 use Rattle.widen.specs.Found.{IsRunAt, IsCycleAt, IsFoundBelow, FindsWidening}

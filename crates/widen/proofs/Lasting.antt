@@ -1,6 +1,6 @@
 -- A contradiction of a problem that is widened is one of the problem that is widened further, where its sum is below 0 still.
 use Rattle.std.proofs.Common.{◌≡◌, ◌<◌, ◌≤◌, ◌^◌, ℕ, List, [], ◌∷◌, length, map, get_or, refl, sym, ◌∙◌, ap, subst, arith}
-use Rattle.std.specs.Prelude.{ℤ, pos, ◌<ℤ◌, All, unsigned_abs}
+use Rattle.std.specs.Prelude.{pos, ◌<ℤ◌, All, unsigned_abs}
 use Rattle.std.proofs.lemmas.List.{length-map}
 use Rattle.std.proofs.lemmas.List.Elements.{All-nil, All-cons, All-head, All-tail, All-map, All-weaker}
 use Rattle.problem_model.specs.declared.items.Bound.{Bound}

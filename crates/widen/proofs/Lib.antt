@@ -17,6 +17,7 @@ pub mod Summing
 pub mod Concluding
 pub mod Lasting
 pub mod Sharing
+pub mod Proposing
 pub mod Ground
 pub mod OneBlame
 pub mod ClockPairs

@@ -1,9 +1,7 @@
 -- From the words of what is named to those on the line of a widening.
 use Rattle.std.proofs.Common.{◌≡◌, ◌⊎◌, inl, inr, ℕ, List, [], ◌∷◌, length, get_or, codes, refl, sym, ◌∙◌, ap, arith}
 use Rattle.problem_model.specs.Problem.{ProblemLists}
-use Rattle.cert_check.specs.declared.what.Links.TheVariants as links
 use Rattle.cert_check.specs.declared.what.What.{What}
-use Rattle.cert_check.specs.declared.what.What.TheVariants as whats
 use Rattle.widen.specs.declared.named.NamedLinks.TheVariants as named_links
 use Rattle.widen.specs.declared.named.NamedWhat.{NamedWhat}
 use Rattle.widen.specs.declared.named.NamedWhat.TheVariants.{Delays, Least, Stamps, Rates, Gaps}

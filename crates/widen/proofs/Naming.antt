@@ -1,6 +1,5 @@
 -- What words name, and how they are spelled.
-use Rattle.std.proofs.Common.{◌≡◌, ◌⊎◌, ◌<◌, inl, inr, ℕ, zero, suc, List, [], ◌∷◌, length, map, get_or, slice_get, Some, codes, refl, sym, ◌∙◌, ap, subst, arith}
-use Rattle.std.specs.Prelude.{All}
+use Rattle.std.proofs.Common.{◌≡◌, ◌⊎◌, ◌<◌, inl, inr, ℕ, zero, suc, List, [], ◌∷◌, length, map, get_or, slice_get, Some, codes, refl, sym, ◌∙◌, ap, arith}
 use Rattle.std.specs.List.{AllByRecursion, slice_index_or}
 use Rattle.std.proofs.lemmas.List.{length-map}
 use Rattle.std.proofs.lemmas.List.Elements.{recursion_from_All}
@@ -22,7 +21,7 @@ use Rattle.cert_check.specs.declared.what.Links.{Links}
 use Rattle.cert_check.specs.declared.what.Links.TheVariants as links
 use Rattle.cert_check.specs.declared.what.What.{What}
 use Rattle.cert_check.specs.declared.what.What.TheVariants.{Delays, Least, Stamps, Rates, Gaps}
-use Rattle.widen.specs.Named.{NamesClocks, NamesLinks, NamesWhat, clocks_words, links_words, what_words, stated_words, SaysWhat, StatesWhat, IsKindOfClocks, IsKindOfLinks, AreStated}
+use Rattle.widen.specs.Named.{NamesClocks, NamesLinks, NamesWhat, clocks_words, links_words, what_words, stated_words, StatesWhat, IsKindOfClocks, IsKindOfLinks, AreStated}
 
 -- ---- the name of a clock, and its place
 named_in : (p : ProblemLists) (k : ℕ) (name : List ℕ) → HasClock p k name → k < length p.clocks

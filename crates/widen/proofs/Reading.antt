@@ -23,7 +23,6 @@ use Rattle.cert.proofs.CertTaking.{none_fit, no_value}
 use Rattle.cert.proofs.CertReading.{whole_from, values_from}
 use Rattle.cert_check.specs.declared.what.What.{What}
 use Rattle.widen.specs.declared.widening.Widening.{Widening}
-use Rattle.widen.specs.declared.widening.StatedWidening.{StatedWidening}
 use Rattle.widen.specs.declared.widening.Widening.TheVariants.{Least, Never}
 use Rattle.widen.specs.Named.{NamesWhat, stated_words, StatesWhat, AreStated}
 use Rattle.widen.specs.Widening.{IsWideningOf}
@@ -31,7 +30,7 @@ use Rattle.widen.specs.WideningText.{widening_head, least_words, least_line, cyc
 use Rattle.widen.specs.WideningFormat.{WideningLine, WideningSaid, line_words, IsSpelled, IsWhole, MayBegin, MayRun, MayStand, AreTimes, IsSound, said, said_lines, widening_format}
 use Rattle.widen.specs.WideningFormat.WideningLine.{LeastLine, PartLine}
 use Rattle.widen.specs.WideningFormat.WideningSaid.{NoneSaid, Said}
-use Rattle.widen.specs.ReadsWidening.{FitsWidening, IsWideningTextOf, RefusesText, ReadsWideningOf, ReadsWideningOver}
+use Rattle.widen.specs.ReadsWidening.{FitsWidening, IsWideningTextOf, RefusesText}
 use Rattle.widen.specs.declared.read.Extra.{Extra}
 use Rattle.widen.specs.declared.read.Extra.TheVariants as extras
 use Rattle.widen.specs.declared.read.Extra.TheVariants.{Of, TooMuch}

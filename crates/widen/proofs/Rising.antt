@@ -1,11 +1,10 @@
 -- What is an execution of a problem is one where it is widened further.
-use Rattle.std.proofs.Common.{◌≡◌, ◌<◌, ◌≤◌, ◌-◌, ◌^◌, ℕ, List, Option, Some, None, refl, ap, arith, inl, inr}
+use Rattle.std.proofs.Common.{◌≡◌, ◌<◌, ◌≤◌, ◌-◌, ◌^◌, ℕ, List, Option, Some, None, ap, arith, inl, inr}
 use Rattle.std.specs.Prelude.{ℤ, ◌-ℤ◌, ◌≤ℤ◌}
 use Rattle.std.proofs.lemmas.Int.{ints}
 use Rattle.std.proofs.lemmas.Bool.{cases_lt}
-use Rattle.problem_model.specs.declared.items.Bound.{Bound}
 use Rattle.problem_model.specs.Problem.{ProblemLists}
-use Rattle.problem_model.specs.Bounds.{Constraint, Declares, Obeys, Times, IsExecution}
+use Rattle.problem_model.specs.Bounds.{Times, IsExecution}
 use Rattle.problem_model.specs.Solutions.{IsContradictionOf}
 use Rattle.problem_model.proofs.Solutions.{no_execution}
 use Rattle.cert.specs.declared.chain.Step.{Step}

@@ -8,7 +8,7 @@ use Rattle.line_format.proofs.Lacking.{lacks_test}
 use Rattle.line_format.proofs.Reading.{same_first}
 use Rattle.widen.specs.declared.named.NamedWhat.{NamedWhat}
 use Rattle.widen.specs.declared.read.Stated.{Stated}
-use Rattle.widen.specs.Named.{IsKindOfClocks, IsKindOfLinks, AreStated}
+use Rattle.widen.specs.Named.{AreStated}
 use Rattle.widen.specs.NamedWords.{stated_named}
 use Rattle.widen.specs.WideningText.{least_word, least_words}
 use Rattle.widen.specs.ReadsLines.{IsStated}

@@ -11,3 +11,4 @@ pub mod Weighed
 pub mod Found
 pub mod Blame
 pub mod Search
+pub mod Raising

@@ -1,23 +1,23 @@
 // Tells by how much each candidate must be widened, so that it heals a contradiction by itself.
-ghost use Rattle.std.specs.Prelude.{◌≡◌, ◌≤◌, ◌<◌, ◌+◌, ◌++◌, [], ◌∷◌, ℕ, List, length, All, Option, IfOk, OnOk, IsTrue};
+ghost use Rattle.std.specs.Prelude.{◌≡◌, ◌↔◌, ◌≤◌, ◌<◌, ◌+◌, ◌++◌, [], ◌∷◌, ℕ, List, length, All, Option, Some, IfOk, IfSome, OnOk, true};
 ghost use Rattle.line_format.specs.Words.{words};
 ghost use Rattle.ports.specs.Room.{HasRoomBehind};
 ghost use Rattle.problem_model.specs.Problem.{ProblemLists};
 ghost use Rattle.problem_graph.specs.HeldBounds.{HoldsShortList};
 ghost use Rattle.solver.specs.Current.{IsCurrent};
+ghost use Rattle.cert_check.specs.declared.what.Clocks.TheVariants as clocks;
 ghost use Rattle.cert_check.specs.declared.what.What.{What};
+ghost use Rattle.cert_check.specs.declared.what.Links.TheVariants as links;
+ghost use Rattle.cert_check.specs.declared.what.What.TheVariants.{Delays, Rates};
 ghost use Rattle.widen.specs.Named.{NamesWhat};
-ghost use Rattle.widen.specs.Least.{HasExecution};
-ghost use Rattle.widen.specs.Found.{FindsWidening};
 ghost use Rattle.widen.specs.Search.{IsCycleOf};
-ghost use Rattle.widen.specs.Blame.{other_kinds, clock_candidates, link_candidates, links_of, gap_candidates, single_candidates, unit_of, healing_words, blame_line, IsHealing, IsBlamedUpTo, IsBlameText};
+ghost use Rattle.widen.specs.Blame.{other_kinds, clock_candidates, link_candidates, links_of, gap_candidates, single_candidates, candidates, unit_of, healing_words, blame_line, IsHealing, Blames, IsBlamedUpTo, IsBlameText};
 
-use crate::found::{Found, search};
+use crate::healing::least_healing;
 use crate::links::links_of;
 use crate::named::push_what;
 use crate::shared_cycles::share;
-use crate::widening::Widening;
-use atto::Steps;
+use atto::{Nano, Steps};
 use cert::Chain;
 use cert_check::{Clocks, Links, What};
 use ports::fixed_line::{Line, first_word, push_decimal, push_word};
@@ -42,30 +42,28 @@ fn unit_of(what: What) -> &'static [u8]
 }
 
 // Appends by how much it is widened, or that nothing heals.
-fn push_healing(line: &mut Line, what: What, found: &Widening)
+fn push_healing(line: &mut Line, what: What, extra: Option<Nano>)
     requires { HasRoomBehind line.old.items 98 }
-    ensures appended { (p : ProblemLists) → FindsWidening what p found.now → (answer : Option ℕ) × IsHealing p what answer
-        × ((first : List ℕ) (ws : List (List ℕ)) → line.old.items ≡ words (first ∷ ws) → line.new.items ≡ words (first ∷ ws ++ healing_words what answer)) }
+    ensures appended { (first : List ℕ) (ws : List (List ℕ)) → line.old.items ≡ words (first ∷ ws) → line.new.items ≡ words (first ∷ ws ++ healing_words what extra) }
     ensures grown { length line.new.items ≤ length line.old.items + 98 }
 {
-    match found {
-        Widening::Least { extra, .. } => {
+    match extra {
+        Some(extra) => {
             push_decimal(line, extra.get());
             push_word(line, unit_of(what));
         }
-        Widening::Never(_) => push_word(line, b"none"),
+        None => push_word(line, b"none"),
     }
 }
 
-// The line of a candidate, by what was found of it.
-fn blame_line(p: &Problem, what: What, found: &Widening) -> Line
-    requires named { NamesWhat p.now what }
-    requires finds { FindsWidening what p.now found.now }
-    ensures { (answer : Option ℕ) × IsHealing p.now what answer × (result.items ≡ blame_line p.now what answer) }
+// The line of a candidate.
+fn blame_line(p: &Problem, what: What, extra: Option<Nano>) -> Line
+    requires { NamesWhat p.now what }
+    ensures { result.items ≡ blame_line p.now what extra }
 {
     let mut line = first_word(b"blame");
     push_what(&mut line, p, what);
-    push_healing(&mut line, what, found);
+    push_healing(&mut line, what, extra);
     line.push(b'\n');
     line
 }
@@ -77,18 +75,42 @@ struct Lines {
     cycles: Vec<Chain>,
 }
 
-// Appends the line of a candidate, by what was found of it, and keeps the contradiction of that.
-fn add_line(lines: &mut Lines, p: &Problem, what: What, found: Found) -> Result<(), AllocError>
+// Appends the line of a candidate.
+fn add_line(
+    lines: &mut Lines,
+    p: &Problem,
+    what: What,
+    extra: Option<Nano>,
+) -> Result<(), AllocError>
     requires named { NamesWhat p.now what }
-    requires finds { FindsWidening what p.now found.widening }
-    requires cycles { All (IsCycleOf p.now) lines.old.cycles.items }
+    requires healing { IsHealing p.now what extra }
     ensures lines { OnOk result ((rest : List What) → IsBlamedUpTo p.now (what ∷ rest) lines.old.text.items → IsBlamedUpTo p.now rest lines.new.text.items) }
+    ensures cycles { lines.new.cycles.items ≡ lines.old.cycles.items }
+{
+    let line = blame_line(p, what, extra);
+    lines.text.extend_from_slice(line.as_slice())?;
+    Ok(())
+}
+
+// The least widening of a candidate, by what the solver of the problem holds. The contradiction of it is kept.
+fn find<L: Ledger>(
+    alloc: Global,
+    lines: &mut Lines,
+    p: &Problem,
+    what: What,
+    s: &Solver,
+    steps: &mut Steps<L>,
+) -> Result<Option<Nano>, AllocError>
+    requires current { IsCurrent s.now }
+    requires graph { HoldsShortList p.now s.now.graph }
+    requires cycles { All (IsCycleOf p.now) lines.old.cycles.items }
+    ensures healing { IfOk result (IsHealing p.now what) }
+    ensures text { lines.new.text.items ≡ lines.old.text.items }
     ensures cycles { OnOk result (All (IsCycleOf p.now) lines.new.cycles.items) }
 {
-    let line = blame_line(p, what, &found.widening);
-    lines.text.extend_from_slice(line.as_slice())?;
-    share(&mut lines.cycles, found)?;
-    Ok(())
+    let found = least_healing(alloc, p, what, s, &lines.cycles, steps)?;
+    share(&mut lines.cycles, found.cycle)?;
+    Ok(found.extra)
 }
 
 // Appends the line of a candidate, by what the solver of the problem holds.
@@ -107,8 +129,8 @@ fn add_found<L: Ledger>(
     ensures lines { OnOk result ((rest : List What) → IsBlamedUpTo p.now (what ∷ rest) lines.old.text.items → IsBlamedUpTo p.now rest lines.new.text.items) }
     ensures cycles { OnOk result (All (IsCycleOf p.now) lines.new.cycles.items) }
 {
-    let found = search(alloc, p, what, s, &lines.cycles, steps)?;
-    add_line(lines, p, what, found)?;
+    let extra = find(alloc, lines, p, what, s, steps)?;
+    add_line(lines, p, what, extra)?;
     Ok(())
 }
 
@@ -133,23 +155,25 @@ fn add_gaps<L: Ledger>(
     Ok(())
 }
 
-// Appends the lines of all least delays, all stamps, all rates and all gaps.
+// Appends the lines of all least delays, all stamps, all rates, whose least widening is known, and all gaps.
 fn add_kinds<L: Ledger>(
     alloc: Global,
     lines: &mut Lines,
     p: &Problem,
     s: &Solver,
+    rates: Option<Nano>,
     steps: &mut Steps<L>,
 ) -> Result<(), AllocError>
     requires current { IsCurrent s.now }
     requires graph { HoldsShortList p.now s.now.graph }
+    requires rates { IsHealing p.now (Rates clocks.All) rates }
     requires cycles { All (IsCycleOf p.now) lines.old.cycles.items }
     ensures lines { OnOk result (IsBlamedUpTo p.now (other_kinds p.now) lines.old.text.items → IsBlamedUpTo p.now (single_candidates p.now) lines.new.text.items) }
     ensures cycles { OnOk result (All (IsCycleOf p.now) lines.new.cycles.items) }
 {
     add_found(alloc, lines, p, What::Least(Links::All), s, steps)?;
     add_found(alloc, lines, p, What::Stamps(Clocks::All), s, steps)?;
-    add_found(alloc, lines, p, What::Rates(Clocks::All), s, steps)?;
+    add_line(lines, p, What::Rates(Clocks::All), rates)?;
     add_gaps(alloc, lines, p, s, steps)?;
     Ok(())
 }
@@ -235,13 +259,12 @@ fn add_links<L: Ledger>(
 }
 
 // Whether nothing needs to be widened.
-fn heals_by_none(found: &Widening) -> bool
-    ensures none { IsTrue result → (what : What) (p : ProblemLists) → FindsWidening what p found.now → HasExecution what p 0 }
-    ensures some { (IsTrue result → ⊥) → (what : What) (p : ProblemLists) → FindsWidening what p found.now → HasExecution what p 0 → ⊥ }
+fn heals_by_none(extra: &Option<Nano>) -> bool
+    ensures { result ≡ true ↔ extra.now ≡ Some 0 }
 {
-    match found {
-        Widening::Least { extra, .. } => extra.get() == 0,
-        Widening::Never(_) => false,
+    match extra {
+        Some(extra) => extra.get() == 0,
+        None => false,
     }
 }
 
@@ -251,18 +274,67 @@ fn add_others<L: Ledger>(
     lines: &mut Lines,
     p: &Problem,
     s: &Solver,
+    rates: Option<Nano>,
     steps: &mut Steps<L>,
 ) -> Result<(), AllocError>
     requires current { IsCurrent s.now }
     requires graph { HoldsShortList p.now s.now.graph }
+    requires rates { IsHealing p.now (Rates clocks.All) rates }
     requires cycles { All (IsCycleOf p.now) lines.old.cycles.items }
     ensures lines { OnOk result (IsBlamedUpTo p.now (other_kinds p.now) lines.old.text.items → IsBlamedUpTo p.now [] lines.new.text.items) }
     ensures cycles { OnOk result (All (IsCycleOf p.now) lines.new.cycles.items) }
 {
     let links = links_of(alloc, p)?;
-    add_kinds(alloc, lines, p, s, steps)?;
+    add_kinds(alloc, lines, p, s, rates, steps)?;
     add_clocks(alloc, lines, p, s, steps)?;
     add_links(alloc, lines, p, &links, s, steps)?;
+    Ok(())
+}
+
+// The lines of all candidates and the end, where the least widening of all greatest delays is known.
+fn add_all<L: Ledger>(
+    alloc: Global,
+    lines: &mut Lines,
+    p: &Problem,
+    s: &Solver,
+    delays: Option<Nano>,
+    steps: &mut Steps<L>,
+) -> Result<(), AllocError>
+    requires current { IsCurrent s.now }
+    requires graph { HoldsShortList p.now s.now.graph }
+    requires delays { IsHealing p.now (Delays links.All) delays }
+    requires cycles { All (IsCycleOf p.now) lines.old.cycles.items }
+    requires empty { lines.old.text.items ≡ [] }
+    ensures { OnOk result (Blames p.now (candidates p.now) lines.new.text.items) }
+{
+    add_line(lines, p, What::Delays(Links::All), delays)?;
+    // The contradiction of rates is mostly near that of stamps, and is found after few others.
+    let rates = find(alloc, lines, p, What::Rates(Clocks::All), s, steps)?;
+    add_others(alloc, lines, p, s, rates, steps)?;
+    lines.text.extend_from_slice(b"end\n")?;
+    Ok(())
+}
+
+// Writes the text of a problem, by what its solver holds.
+fn write_text<L: Ledger>(
+    alloc: Global,
+    lines: &mut Lines,
+    p: &Problem,
+    s: &Solver,
+    steps: &mut Steps<L>,
+) -> Result<(), AllocError>
+    requires current { IsCurrent s.now }
+    requires graph { HoldsShortList p.now s.now.graph }
+    requires cycles { All (IsCycleOf p.now) lines.old.cycles.items }
+    requires empty { lines.old.text.items ≡ [] }
+    ensures { OnOk result (IsBlameText p.now lines.new.text.items) }
+{
+    let delays = find(alloc, lines, p, What::Delays(Links::All), s, steps)?;
+    if heals_by_none(&delays) {
+        lines.text.extend_from_slice(b"blame none\n")?;
+        return Ok(());
+    }
+    add_all(alloc, lines, p, s, delays, steps)?;
     Ok(())
 }
 
@@ -281,15 +353,7 @@ fn text_by<L: Ledger>(
         text: Vec::new(alloc),
         cycles: Vec::new(alloc),
     };
-    let delays = What::Delays(Links::All);
-    let first = search(alloc, p, delays, s, &lines.cycles, steps)?;
-    if heals_by_none(&first.widening) {
-        lines.text.extend_from_slice(b"blame none\n")?;
-        return Ok(lines.text);
-    }
-    add_line(&mut lines, p, delays, first)?;
-    add_others(alloc, &mut lines, p, s, steps)?;
-    lines.text.extend_from_slice(b"end\n")?;
+    write_text(alloc, &mut lines, p, s, steps)?;
     Ok(lines.text)
 }
 

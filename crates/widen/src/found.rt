@@ -1,19 +1,18 @@
 // The least widening of a problem, found.
-ghost use Rattle.std.specs.Prelude.{◌<◌, ◌≤◌, All, IfOk, OnOk};
+ghost use Rattle.std.specs.Prelude.{◌<◌, ◌≤◌, IfOk, OnOk};
 ghost use Rattle.solver.specs.Current.{IsCurrent};
 ghost use Rattle.problem_graph.specs.HeldBounds.{HoldsShortList};
 ghost use Rattle.problem_solver.specs.Order.{AreAllArcs};
 ghost use Rattle.widen.specs.Found.{FindsWidening};
-ghost use Rattle.widen.specs.Search.{IsKnown, IsCycleOf};
+ghost use Rattle.widen.specs.Search.{IsKnown};
 ghost use Rattle.widen.specs.Widening.{IsWideningOf, ShowsWidening};
 
 use crate::attempt::{Ordered, try_nothing, try_widening};
 use crate::choice::Choice;
 use crate::known::{Known, concluded, narrow, nothing_known};
-use crate::shared_cycles::narrow_by;
+use crate::proposed::narrow_by_pass;
 use crate::widening::Widening;
 use atto::Steps;
-use cert::Chain;
 use cert_check::What;
 use problem::Problem;
 use problem_solver::solve;
@@ -35,8 +34,8 @@ fn all_arcs(alloc: Global, g: &Graph) -> Result<Vec<u32>, AllocError>
     Ok(order)
 }
 
-// What the solver of the problem says of widenings.
-fn first_known(alloc: Global, p: &Problem, what: What, s: &Solver) -> Result<Known, AllocError>
+/// What the solver of the problem says of widenings.
+pub fn first_known(alloc: Global, p: &Problem, what: What, s: &Solver) -> Result<Known, AllocError>
     requires current { IsCurrent s.now }
     requires graph { HoldsShortList p.now s.now.graph }
     ensures { IfOk result (λ known. IsKnown what p.now known) }
@@ -47,8 +46,8 @@ fn first_known(alloc: Global, p: &Problem, what: What, s: &Solver) -> Result<Kno
     Ok(known)
 }
 
-// Tries widenings until nothing is left between both ends, and says in how many rounds, with that of `first_known`.
-fn close<L: Ledger>(
+/// Tries widenings until nothing is left between both ends, and says in how many rounds, with that of `first_known`.
+pub fn close<L: Ledger>(
     alloc: Global,
     p: &Problem,
     what: What,
@@ -90,24 +89,41 @@ pub struct Found {
     pub rounds: u64,
 }
 
-/// What `widening_in_rounds` finds, by what the solver of the problem holds and by contradictions that other searches found:
-/// the search between what does not heal and what does.
-pub fn search<L: Ledger>(
+// What is known once a pass over the bounds was judged, if anything is left between both ends.
+fn narrow_first<L: Ledger>(
     alloc: Global,
     p: &Problem,
     what: What,
     s: &Solver,
-    cycles: &[Chain],
+    known: &mut Known,
+    steps: &mut Steps<L>,
+) -> Result<(), AllocError>
+    requires graph { HoldsShortList p.now s.now.graph }
+    requires known { IsKnown what p.now known.old }
+    ensures { OnOk result (IsKnown what p.now known.new) }
+{
+    if known.low < known.high {
+        narrow_by_pass(alloc, p, what, s, known, steps)?;
+    }
+    Ok(())
+}
+
+// What `widening_in_rounds` finds, by what the solver of the problem holds: the search between what does not heal and
+// what does.
+fn search<L: Ledger>(
+    alloc: Global,
+    p: &Problem,
+    what: What,
+    s: &Solver,
     steps: &mut Steps<L>,
 ) -> Result<Found, AllocError>
     requires current { IsCurrent s.now }
     requires graph { HoldsShortList p.now s.now.graph }
-    requires cycles { All (IsCycleOf p.now) cycles.now }
     ensures finds { IfOk result (λ found. FindsWidening what p.now found.widening) }
     ensures some { IfOk result (λ found. 0 < found.rounds) }
 {
     let mut known = first_known(alloc, p, what, s)?;
-    narrow_by(alloc, p, what, cycles, &mut known)?;
+    narrow_first(alloc, p, what, s, &mut known, steps)?;
     let rounds = close(alloc, p, what, s, &mut known, steps)?;
     Ok(Found {
         widening: concluded(known),
@@ -128,7 +144,7 @@ pub fn widening_in_rounds<L: Ledger>(
     ensures some { IfOk result (λ found. 0 < found.rounds) }
 {
     let s = solve(alloc, p, 0, steps)?;
-    let found = search(alloc, p, what, &s, &[], steps)?;
+    let found = search(alloc, p, what, &s, steps)?;
     Ok(found)
 }
 

@@ -3,16 +3,13 @@ ghost use Rattle.std.specs.Prelude.{◌≡◌, ◌<◌, ◌^◌, map, All, IfOk,
 ghost use Rattle.problem_model.specs.Problem.{ProblemLists};
 ghost use Rattle.cert_check.specs.declared.what.What.{What};
 ghost use Rattle.widen.specs.Weighed.{arc_of};
-ghost use Rattle.widen.specs.Found.{FindsWidening};
 ghost use Rattle.widen.specs.Search.{IsTried, IsKnown, IsCycleOf};
 
 use crate::attempt::last_cycle;
 use crate::cycles::sum_of;
-use crate::found::Found;
 use crate::known::{Known, nano, narrow};
 use crate::tried::Tried;
 use crate::weighed::arcs_in;
-use crate::widening::Widening;
 use cert::{Chain, Step};
 use cert_check::What;
 use problem::Problem;
@@ -113,32 +110,13 @@ pub fn narrow_by(
     Ok(())
 }
 
-// Whether a search may have found a contradiction that it was not given: the first round goes by what the solver holds,
-// and an execution takes one more.
-fn is_new(found: &Found) -> bool {
-    match found.widening {
-        Widening::Least { .. } => found.rounds > 2,
-        Widening::Never(_) => found.rounds > 1,
-    }
-}
-
-// The cycle of a widening.
-fn cycle_of(widening: Widening) -> Option<Chain>
-    ensures { (what : What) (p : ProblemLists) → FindsWidening what p widening → IfSome result (IsCycleOf p) }
+/// Keeps the cycle that a search found for those to come: at most 64 of them. It answers an error only where memory runs
+/// out.
+pub fn share(cycles: &mut Vec<Chain>, found: Option<Chain>) -> Result<(), AllocError>
+    ensures { OnOk result ((p : ProblemLists) → IfSome found (IsCycleOf p) → All (IsCycleOf p) cycles.old.items → All (IsCycleOf p) cycles.new.items) }
 {
-    match widening {
-        Widening::Least { cycle, .. } => cycle,
-        Widening::Never(cycle) => Some(cycle),
-    }
-}
-
-/// Keeps the cycle that a search found for those to come, if it may be new: at most 64 of them. It answers an error only
-/// where memory runs out.
-pub fn share(cycles: &mut Vec<Chain>, found: Found) -> Result<(), AllocError>
-    ensures { OnOk result ((what : What) (p : ProblemLists) → FindsWidening what p found.widening → All (IsCycleOf p) cycles.old.items → All (IsCycleOf p) cycles.new.items) }
-{
-    if cycles.len() < MOST_CYCLES && is_new(&found) {
-        if let Some(cycle) = cycle_of(found.widening) {
+    if cycles.len() < MOST_CYCLES {
+        if let Some(cycle) = found {
             cycles.push(cycle)?;
         }
     }

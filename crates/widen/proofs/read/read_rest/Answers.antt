@@ -1,4 +1,4 @@
-use Rattle.std.proofs.Common.{◌≡◌, ◌<◌, ◌+◌, ◌∷◌, [], Some, None, length, codes, refl, sym, ap, arith, rules}
+use Rattle.std.proofs.Common.{◌≡◌, ◌<◌, ◌+◌, ◌∷◌, [], Some, None, length, codes, refl, sym, arith, rules}
 use Rattle.line_format.proofs.Lacking.{lacks_test}
 use Rattle.problem.specs.Listing.{all_readings}
 use Rattle.cert.proofs.Certificates.{own_readings}

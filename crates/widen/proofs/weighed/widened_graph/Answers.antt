@@ -1,7 +1,6 @@
 use Rattle.std.proofs.Common.{◌≡◌, ◌<◌, ◌+◌, ◌∙◌, ℕ, List, length, sym, ap, subst, arith}
 use Rattle.problem_model.specs.declared.items.Node.{Node}
-use Rattle.sync_graph.specs.declared.arc.Arc.{Arc}
-use Rattle.sync_graph.specs.Graph.{GraphLists, IsSound, arc_at, with_arc}
+use Rattle.sync_graph.specs.Graph.{IsSound, arc_at}
 use Rattle.sync_graph.specs.Names.{IsNamed}
 use Rattle.sync_graph.proofs.InForce.{no_arc}
 use Rattle.cert_check.specs.Widened.{widened}

@@ -2,7 +2,7 @@ use Rattle.std.proofs.Common.{subst}
 use Rattle.widen.specs.Least.{most_extra}
 use Rattle.widen.specs.Found.{FindsWidening}
 use Rattle.widen.proofs.Sharing.{cycle_below}
-use Rattle.widen.proofs.shared_cycles.cycle_of.Goals as goal
+use Rattle.widen.proofs.healing.cycle_of.Goals as goal
 
 pub returns-in-Least : goal.returns-in-Least
 returns-in-Least c = λ what p finds.
