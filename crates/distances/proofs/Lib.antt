@@ -6,4 +6,6 @@ pub mod Beginning
 pub mod Repairing
 pub mod Searching
 pub mod Pushed
+pub mod Resting
 pub mod Stopping
+pub mod Guiding

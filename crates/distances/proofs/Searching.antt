@@ -1,6 +1,6 @@
 -- What holds throughout a search.
-use Rattle.std.proofs.Common.{◌≡◌, ℕ, ◌<◌, true, length, sym, subst, arith, to_z, of_z}
-use Rattle.std.specs.Prelude.{◌+◌, ℤ, pos, ◌-ℤ◌, All}
+use Rattle.std.proofs.Common.{◌≡◌, ℕ, ◌<◌, true, length, ap, sym, subst, ◌∙◌, arith, to_z, of_z}
+use Rattle.std.specs.Prelude.{◌+◌, ℤ, pos, neg_ℤ, ◌-ℤ◌, All}
 use mir.Syntax.{w128}
 use Rattle.std.proofs.lemmas.Int.{ints}
 use Rattle.problem_model.specs.Executions.{at}
@@ -9,15 +9,15 @@ use Rattle.problem_model.specs.Tables.{ObeysAll}
 use Rattle.problem_model.specs.Limits.{path_bits, term_bits}
 use Rattle.earliest.proofs.Bounds.{worth}
 use Rattle.distances.specs.Searched.{Searched, IsSearch, table, height}
-use Rattle.distances.proofs.Directions.{facing_below, earliest_small, potential_obeyed, at_small}
+use Rattle.distances.proofs.Directions.{facing_below, facing_obeyed, at_small}
 
 -- the values are small
 pub search_small : (s : Searched) → IsSearch s → All (IsUpTo path_bits) s.values
-search_small s ok = earliest_small s.graph ok.graph s.values ok.earliest
+search_small s ok = ok.small
 
 -- the potential obeys the arcs
 pub search_obeyed : (s : Searched) → IsSearch s → ObeysAll (table s) (height s)
-search_obeyed s ok = potential_obeyed s.graph ok.graph s.values ok.earliest s.side
+search_obeyed s ok = facing_obeyed s.side s.graph s.values ok.obeyed
 
 up_118 : (x : ℤ) → IsUpTo path_bits x → IsUpTo (path_bits + 3) x
 up_118 x u = (omega (arith, ints, u.0), omega (arith, ints, u.1))
@@ -41,6 +41,11 @@ module _ (s : Searched) (ok : IsSearch s) (node : ℕ) (v : ℤ) (e : v ≡ at s
 
   pub turned_value_small : IsUpTo term_bits (to_z w128 (of_z w128 (pos 0 -ℤ to_z w128 (of_z w128 v))))
   turned_value_small = subst (λ x. IsUpTo term_bits (to_z w128 (of_z w128 (pos 0 -ℤ x)))) (sym (worth v (up_118 v small_here))) (held (pos 0 -ℤ v) (less_115 v small_here))
+
+  pub turned_value : to_z w128 (of_z w128 (pos 0 -ℤ to_z w128 (of_z w128 v))) ≡ neg_ℤ (at s.values node)
+  turned_value =
+      ap (λ x. to_z w128 (of_z w128 (pos 0 -ℤ x))) (worth v (up_118 v small_here)) ∙ worth (pos 0 -ℤ v) (up_118 (pos 0 -ℤ v) (less_115 v small_here))
+      ∙ (let q : v ≡ at s.values node = e in omega (arith, ints))
 
 -- an arc in force is one of the graph's
 pub force_below : (s : Searched) → IsSearch s → (j : ℕ) → (table s).in_force j ≡ true → j < length s.graph.arcs

@@ -1,7 +1,8 @@
 -- A search that is left before all nodes are taken has the greatest difference of the node that it would take next.
-use Rattle.std.proofs.Common.{◌≡◌, ℕ, ◌<◌, Bool, true, false, length, List, get_or, refl, ap, sym, ◌∙◌, subst, arith, inl, inr, ◌⊎◌}
-use Rattle.std.specs.Prelude.{◌+◌, ◌^◌, Option, ℤ, pos, neg_ℤ, ◌+ℤ◌, ◌-ℤ◌, ◌≤ℤ◌, ◌<ℤ◌, All}
+use Rattle.std.proofs.Common.{◌≡◌, ℕ, ◌<◌, Bool, true, false, not, ◌&&◌, length, List, get_or, refl, ap, sym, ◌∙◌, subst, arith, inl, inr, ◌⊎◌}
+use Rattle.std.specs.Prelude.{◌+◌, ◌^◌, Option, Some, None, IfSome, ℤ, pos, neg_ℤ, ◌+ℤ◌, ◌-ℤ◌, ◌≤ℤ◌, ◌<ℤ◌, All}
 use Rattle.std.proofs.lemmas.Int.{ints, by_lt_z}
+use Rattle.std.proofs.lemmas.Bool.{cases_lt}
 use Rattle.std.proofs.lemmas.List.Elements.{Contains-get_or}
 use Rattle.problem_model.specs.Executions as bounds
 use Rattle.problem_model.specs.Executions.{at, difference, Obeys, IsExecution, values_by}
@@ -14,7 +15,7 @@ use Rattle.problem_model.proofs.Tables.{obeys_all}
 use Rattle.sync_graph.specs.Graph.{GraphLists, IsGraph, table_of}
 use Rattle.sync_graph.specs.InForce.{arcs_of}
 use Rattle.sync_graph.proofs.InForce.{arcs_listed, arcs_within}
-use Rattle.frontier.specs.Keys.{IsEmpty, IsLeastEntry}
+use Rattle.frontier.specs.Keys.{Waits, IsEmpty, IsLeastEntry}
 use Rattle.row_pool.specs.declared.cell.Cell.{Cell}
 use Rattle.row_pool.specs.declared.cell.Reach.{Reach}
 use Rattle.row_pool.specs.declared.cell.Reach.TheVariants.{At, Never}
@@ -25,7 +26,10 @@ use Rattle.distances.specs.declared.side.Side.{Side}
 use Rattle.distances.specs.declared.side.Side.TheVariants.{From, Towards}
 use Rattle.distances.specs.Facing.{facing}
 use Rattle.distances.specs.Reaches.{IsReachIn, IsReachBy, IsReachOver}
-use Rattle.distances.proofs.Puts.{waits_true, none_waits, least_reduced}
+use Rattle.distances.specs.Guides.{told, IsFence}
+use Rattle.distances.specs.Wiping.{rests}
+use Rattle.distances.proofs.Puts.{waits_true, waits_key, none_waits, least_reduced}
+use Rattle.distances.proofs.Resting.{not_both, obeys_so}
 
 -- one of two values, by whether a node is known and whether it waits
 abbrev held_by : Bool → Bool → ℤ → ℤ → ℤ
@@ -99,6 +103,19 @@ module _ (table : ArcTable) (p : ℕ) (e : ℕ → ℤ) (top : ℤ) (rank : ℕ 
         -- so all nodes together obey the arcs
         held_obeys : ObeysAll table (held c waits e K)
         held_obeys j f = held_arc j f (is_held c waits e K (table.arc j).from) (is_held c waits e K (table.arc j).to)
+
+        -- the taken nodes are a fence
+        fence_either : (k : ℕ) (a w : Bool) → c.known k ≡ a → waits k ≡ w → told (a && not w) (c.value k) (e k +ℤ K) ≡ held c waits e K k
+        fence_either k true true ea ew = sym (ap (λ v. held_by v (waits k) (c.value k) (e k +ℤ K)) ea ∙ ap (λ v. held_by true v (c.value k) (e k +ℤ K)) ew)
+        fence_either k true false ea ew = sym (ap (λ v. held_by v (waits k) (c.value k) (e k +ℤ K)) ea ∙ ap (λ v. held_by true v (c.value k) (e k +ℤ K)) ew)
+        fence_either k false w ea ew = sym (ap (λ v. held_by v (waits k) (c.value k) (e k +ℤ K)) ea)
+
+        pub taken_fence : IsFence table p e K (λ k. c.known k && not (waits k)) c.value
+        taken_fence = record {
+          obeyed = obeys_so table (held c waits e K) (λ k. told (c.known k && not (waits k)) (c.value k) (e k +ℤ K)) (λ k. fence_either k (c.known k) (waits k) refl refl) held_obeys;
+          low = λ k r. b.bound e x k (not_both (c.known k) (waits k) r).0;
+          high = λ k r. taken_low k (not_both (c.known k) (waits k) r).0 (not_both (c.known k) (waits k) r).1;
+        }
 
     own_value : c.value p ≡ pos 0
     own_value = b.own.1
@@ -193,6 +210,25 @@ module _ (nodes : ℕ) (table : ArcTable) (p : ℕ) (e : ℕ → ℤ) (old row :
         (stopped table p e u.top u.rank (cells_of old) (cells_of row) (waits_of front) u.relaxing fresh x node
         (waits_true front node key least.waits) (keyed node key least.waits).0 (least_reduced e row front node key keyed least))
 
+    -- what waits is a node
+    pub waiting_within : AreKeyed e front row → (k : ℕ) → waits_of front k ≡ true → k < nodes
+    waiting_within keyed k w = elim (cases_lt k nodes) [
+      | inl l ↦ l
+      | inr l ↦
+          let key : (z : ℤ) × Waits front k z = waits_key front k w in
+          absurd (let t : (cell_at row k).known ≡ true = (keyed k key.0 key.1).0 in let f : (cell_at row k).known ≡ false = u.past k l in let z : ⊥ = cc in z)
+    ]
+
+    -- the taken nodes are a fence, with what the next one counts beyond
+    pub fence_there : (node : ℕ) (key : ℤ) → AreKeyed e front row → IsLeastEntry front node key
+        → IsFence table p e key (rests row front) (λ k. (cell_at row k).value)
+    fence_there node key keyed least =
+        let own : key ≡ reduced e (cells_of row) node = (keyed node key least.waits).1 in
+        let w : waits_of front node ≡ true = waits_true front node key least.waits in
+        taken_fence table p e u.top u.rank (cells_of old) (cells_of row) (waits_of front) u.relaxing fresh x key
+        (subst (λ t. u.top ≤ℤ t) (sym own) (u.relaxing.above node w))
+        (λ k h. subst (λ t. t ≤ℤ reduced e (cells_of row) k) (sym own) (least_reduced e row front node key keyed least k h))
+
     pub ended_there : (q : ℕ) → IsEmpty front → IsReachOver table p q (reach_of (cells_of row) q)
     ended_there q empty = ended table p e u.top u.rank (cells_of old) (cells_of row) (waits_of front) u.relaxing fresh x (none_waits front empty) q
 
@@ -218,7 +254,7 @@ turned_less : (a b h : ℤ) → h <ℤ (a -ℤ b) → h <ℤ (neg_ℤ b -ℤ neg
 turned_less a b h l = omega (arith, ints)
 
 -- what the reversed arcs tell from p to q the arcs tell from q to p
-reach_turned : (table : ArcTable) (p q : ℕ) (r : Reach) → IsReachOver (reversed_table table) p q r → IsReachOver table q p r
+pub reach_turned : (table : ArcTable) (p q : ℕ) (r : Reach) → IsReachOver (reversed_table table) p q r → IsReachOver table q p r
 reach_turned table p q (At h) m = record {
   most = λ x o. turned_low (x q) (x p) h (m.most (λ k. neg_ℤ (x k)) (obeys_turned table x o));
   attained = ((λ k. neg_ℤ (m.attained.0 k)), turned_obeys table m.attained.0 m.attained.1, turned_same (m.attained.0 q) (m.attained.0 p) h m.attained.2);
@@ -245,7 +281,7 @@ module _ (g : GraphLists) (is : IsGraph g) (p q : ℕ) (lp : p < length g.nodes)
       let vq : at (values_by x (length g.nodes)) q ≡ x q = at-values_by x (length g.nodes) q lq in
       omega (arith, ints)
 
-  reach_in : (r : Reach) → IsReachOver (table_of g) p q r → IsReachIn g p q r
+  pub reach_in : (r : Reach) → IsReachOver (table_of g) p q r → IsReachIn g p q r
   reach_in (At h) m = record {
     attained = (values_by m.attained.0 (length g.nodes), as_execution m.attained.0 m.attained.1, as_difference m.attained.0 ∙ m.attained.2);
     most = λ xs run. m.most (at xs) (obeys_all (length g.nodes) (table_of g) (arcs_of g) xs (arcs_listed g is) run);
@@ -253,6 +289,11 @@ module _ (g : GraphLists) (is : IsGraph g) (p q : ℕ) (lp : p < length g.nodes)
   reach_in Never m = λ h.
       let y : (x : ℕ → ℤ) × ObeysAll (table_of g) x × (h <ℤ (x q -ℤ x p)) = m h in
       (values_by y.0 (length g.nodes), as_execution y.0 y.1, subst (λ d. h <ℤ d) (sym (as_difference y.0)) y.2)
+
+-- what may be known of the table is so of executions
+pub near_in : (g : GraphLists) → IsGraph g → (p q : ℕ) → p < length g.nodes → q < length g.nodes → (r : Option Reach) → IfSome r (λ reach. IsReachOver (table_of g) p q reach) → IfSome r (λ reach. IsReachIn g p q reach)
+near_in g is p q lp lq None h = tt
+near_in g is p q lp lq (Some reach) h = reach_in g is p q lp lq reach h
 
 -- the search either way
 pub reach_by : (side : Side) (g : GraphLists) → IsGraph g → (p q : ℕ) → p < length g.nodes → q < length g.nodes → (r : Reach) → IsReachOver (facing side g) p q r → IsReachBy side g p q r

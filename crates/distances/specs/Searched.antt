@@ -1,18 +1,18 @@
 -- What a search looks at, and the row and the queue that it works on.
-use Rattle.std.specs.Prelude.{◌+◌, ◌≡◌, ℕ, ◌^◌, ◌<◌, ◌≤◌, true, false, List, length, ℤ, pos, ◌≤ℤ◌, Option}
+use Rattle.std.specs.Prelude.{◌+◌, ◌≡◌, ℕ, ◌^◌, ◌<◌, ◌≤◌, true, false, List, length, ℤ, pos, ◌≤ℤ◌, Option, All}
 use Rattle.problem_model.specs.Numbers.{IsUpTo}
 use Rattle.problem_model.specs.RowPops.{IsCandidate}
-use Rattle.problem_model.specs.Tables.{ArcTable}
+use Rattle.problem_model.specs.Tables.{ArcTable, ObeysAll}
+use Rattle.problem_model.specs.Executions.{at}
 use Rattle.problem_model.specs.Limits.{path_bits}
-use Rattle.sync_graph.specs.Graph.{GraphLists, IsGraph}
-use Rattle.earliest.specs.Values.{IsEarliestOf}
+use Rattle.sync_graph.specs.Graph.{GraphLists, IsGraph, table_of}
 use Rattle.row_pool.specs.declared.cell.Cell.{Cell}
 use Rattle.row_pool.specs.Row.{cell_at, cells_of}
 use Rattle.distances.specs.declared.side.Side.{Side}
 use Rattle.distances.specs.Facing.{facing, followed, potential}
 use Rattle.distances.specs.Relaxed.{AreKeyed}
 
--- a graph, one value for each of its nodes, and the way in which its arcs are followed
+-- a graph, the values by which its nodes are ordered, one for each, and the way in which its arcs are followed
 pub record Searched : Type 0 where
   pub graph : GraphLists
   pub values : List ℤ
@@ -34,10 +34,11 @@ lists s = followed s.side s.graph
 abbrev pub height : Searched → ℕ → ℤ
 height s = potential s.side s.values
 
--- the values are the graph's earliest execution
+-- the values obey the graph's arcs, and are small
 pub record IsSearch (s : Searched) : Type 0 where
   pub graph : IsGraph s.graph
-  pub earliest : IsEarliestOf s.graph s.values
+  pub obeyed : ObeysAll (table_of s.graph) (at s.values)
+  pub small : All (IsUpTo path_bits) s.values
 
 -- there is a cell and room for each node, and what waits is known and has its reduced cost as its key
 pub record IsOpenRow (s : Searched) (row : List Cell) (front : List (Option ℤ)) : Type 0 where

@@ -31,7 +31,7 @@ pub fn find_reach<L: Ledger>(
     ensures reach { IsReachBy search.now.side search.now.graph p q result }
     ensures queue { queue.new ≡ queue.old }
 {
-    // It tells that the values are the earliest execution of the graph.
+    // It tells that the values obey the arcs of the graph.
     search.exact();
     let front = &mut queue.front;
     clear(row);
@@ -58,7 +58,7 @@ fn settle_until<L: Ledger>(
     ensures reach { IsReachOver (table search.now) p q (reach_of (cells_of row.new) q) }
     ensures room { length front.new ≡ length front.old }
 {
-    // It tells that the values are the earliest execution of the graph.
+    // It tells that the values obey the arcs of the graph.
     search.exact();
     let own = Candidate {
         node: p,

@@ -80,7 +80,7 @@ pub fn candidate_along(search: &Search, arc: u32, base: i128) -> Candidate
     ensures distance { result.distance ≡ base +ℤ ((table search.now).arc arc).weight }
     ensures parent { result.parent ≡ arc }
 {
-    // It tells that the values are the earliest execution of the graph.
+    // It tells that the values obey the arcs of the graph.
     search.exact();
     let a = search.arc(arc);
     Candidate {
@@ -100,7 +100,7 @@ pub fn relax_arc(search: &Search, arc: u32, base: i128, row: &mut [Cell], front:
     ensures state { IsOpenRow search.now row.new front.new }
     ensures room { length front.new ≡ length front.old }
 {
-    // It tells that the values are the earliest execution of the graph.
+    // It tells that the values obey the arcs of the graph.
     search.exact();
     let candidate = candidate_along(search, arc, base);
     offer(search, &candidate, row, front);
@@ -123,7 +123,7 @@ pub fn relax_arcs<L: Ledger>(
     ensures room { length front.new ≡ length front.old }
     ensures cost { steps.new ≤ steps.old + length (list_at (lists search.now) node) + 1 }
 {
-    // It tells that the values are the earliest execution of the graph.
+    // It tells that the values obey the arcs of the graph.
     search.exact();
     let base = row[node as usize].value;
     let mut k = 0;

@@ -34,7 +34,7 @@ pub fn repair_row<L: Ledger>(
     ensures cost { steps.new ≤ steps.old + steps_of_changes (lists search.now) row.old row.new + 1 }
     ensures queue { queue.new ≡ queue.old }
 {
-    // It tells that the values are the earliest execution of the graph.
+    // It tells that the values obey the arcs of the graph.
     search.exact();
     let a = search.arc(arc);
     let tail = row[search.tail(&a) as usize];

@@ -32,7 +32,7 @@ pub fn settle<L: Ledger>(
     ensures cost { steps.new ≤ steps.old + steps_of_changes (lists search.now) row.old row.new + 1 }
     ensures queue { queue.new ≡ queue.old }
 {
-    // It tells that the values are the earliest execution of the graph.
+    // It tells that the values obey the arcs of the graph.
     search.exact();
     let front = &mut queue.front;
     offer(search, candidate, row, front);

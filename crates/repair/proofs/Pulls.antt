@@ -84,6 +84,19 @@ module _ (g : GraphLists) (side : Side) (arc tail : ℕ) (row : List Cell) (fron
       relaxed = subst (λ v. IsRelaxedBy (facing side g) v arc row row' front front') (base_is ∙ ap (λ n. (cell_at row n).value) et) relaxed;
     }
 
+-- a tail without a distance brings nothing
+pub idle_unknown : (g : GraphLists) (side : Side) (arc tail : ℕ) (row : List Cell) (front : List (Option ℤ)) → tail ≡ ((facing side g).arc arc).from → tail < length row
+    → not (get_or row tail no_cell).known ≡ true → IsIdle g side arc row row front front
+idle_unknown g side arc tail row front et l unknown = record {
+  row_is = refl;
+  front_is = refl;
+  why = λ h. absurd (
+      let here : (get_or row tail no_cell).known ≡ (cell_at row tail).known = ap (λ (x : Cell). x.known) (cell_read row tail l) in
+      let known : (cell_at row tail).known ≡ true = subst (λ n. (cell_at row n).known ≡ true) (sym et) h in
+      let rest : not true ≡ true = ap not (sym (here ∙ known)) ∙ unknown in
+      let z : ⊥ = cc in z);
+}
+
 -- ---- one arc is tried
 
 module _ (g : GraphLists) (side : Side) (node k arc : ℕ) (row0 row row' : List Cell) (front0 front front' : List (Option ℤ))

@@ -79,7 +79,7 @@ pub fn clear_heads(search: &Search, removed: &[Arc], row: &mut [Cell], found: &m
     ensures places { LeavesFrom result found.old found.new }
     ensures blank { AreBlank row.old → AreBlank row.new }
 {
-    // It tells that the values are the earliest execution of the graph.
+    // It tells that the values obey the arcs of the graph.
     search.exact();
     let mut count = 0;
     for i in 0..removed.len() {
@@ -127,7 +127,7 @@ pub fn clear_children<L: Ledger>(
     ensures blank { AreBlank row.old → AreBlank row.new }
     ensures steps { steps.new ≤ steps.old + onward search.now.side search.now.graph node + 1 }
 {
-    // It tells that the values are the earliest execution of the graph.
+    // It tells that the values obey the arcs of the graph.
     search.exact();
     let mut count = first;
     let mut k = 0;
@@ -160,7 +160,7 @@ pub fn clear_all<L: Ledger>(
     ensures blank { AreBlank row.old → AreBlank row.new }
     ensures steps { steps.new ≤ steps.old + sum_to result (λ i. onward search.now.side search.now.graph (found_at found.new i) + 1) }
 {
-    // It tells that the values are the earliest execution of the graph.
+    // It tells that the values obey the arcs of the graph.
     search.exact();
     let mut count = first;
     let mut done = 0;

@@ -138,6 +138,17 @@ impl Kept {
         }
     }
 
+    /// The row from the node of the source's clock and the row towards it. It is `None` where the source has no slot, and
+    /// only there.
+    pub fn source_rows(&self) -> Option<(&RowId, &RowId)>
+        ensures { MatchOption result (self.now.source ≡ None) (λ rows. (slot : slots.Slot) × (self.now.source ≡ Some slot) × (rows.0.now ≡ slot.from) × (rows.1.now ≡ slot.to)) }
+    {
+        match &self.source {
+            None => None,
+            Some(source) => Some((&source.from, &source.to)),
+        }
+    }
+
     /// The number of a node's slot, from 1. It is `None` where the node has no slot, and only there.
     pub fn place_of(&self, p: u32) -> Option<u32>
         ensures { MatchOption result (slot_of self.now p ≡ None) (λ place. IsSlotNumber self.now p place) }

@@ -37,7 +37,7 @@ fn pull_arc(search: &Search, arc: u32, row: &mut [Cell], front: &mut Frontier)
     ensures state { IsOpenRow search.now row.new front.new }
     ensures room { length front.new ≡ length front.old }
 {
-    // It tells that the values are the earliest execution of the graph.
+    // It tells that the values obey the arcs of the graph.
     search.exact();
     let a = search.arc(arc);
     let tail = search.tail(&a);
@@ -69,7 +69,7 @@ fn pull<L: Ledger>(
     ensures room { length front.new ≡ length front.old }
     ensures steps { steps.new ≤ steps.old + onward (opposite search.now.side) search.now.graph node + 1 }
 {
-    // It tells that the values are the earliest execution of the graph.
+    // It tells that the values obey the arcs of the graph.
     search.exact();
     let mut k = 0;
     while let Some(arc) = search.next_arc_to(node, k, steps) {
@@ -96,7 +96,7 @@ fn pull_all<L: Ledger>(
     ensures room { length front.new ≡ length front.old }
     ensures steps { steps.new ≤ steps.old + sum_to found.now.count (λ i. onward (opposite search.now.side) search.now.graph (found_at found.now.list.now i) + 1) }
 {
-    // It tells that the values are the earliest execution of the graph.
+    // It tells that the values obey the arcs of the graph.
     search.exact();
     for i in 0..found.count {
         let node = found.list[i as usize];
@@ -129,7 +129,7 @@ pub fn regrow<L: Ledger>(
     ensures queue { queue.new ≡ queue.old }
     ensures steps { steps.new ≤ steps.old + sum_to found.now.count (λ i. onward (opposite search.now.side) search.now.graph (found_at found.now.list.now i) + 1) + steps_of_changes (lists search.now) row.old row.new + 1 }
 {
-    // It tells that the values are the earliest execution of the graph.
+    // It tells that the values obey the arcs of the graph.
     search.exact();
     let front = &mut queue.front;
     pull_all(search, found, row, front, steps);

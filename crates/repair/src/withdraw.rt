@@ -83,7 +83,7 @@ pub fn withdraw_row<L: Ledger>(
         → (k : ℕ) → affected k ≡ false → cell_at row.new k ≡ cell_at row.old k }
 {
     let search = &withdrawal.search;
-    // It tells that the values are the earliest execution of the graph.
+    // It tells that the values obey the arcs of the graph.
     search.exact();
     let first = clear_heads(search, withdrawal.removed, row, found);
     let count = clear_all(search, row, found, first, steps);

@@ -1,5 +1,5 @@
 -- What is read of a solver that has an execution.
-use Rattle.std.proofs.Common.{◌≡◌, ℕ, List, [], length, Option, Some, None, subst}
+use Rattle.std.proofs.Common.{◌≡◌, ℕ, List, [], length, Option, Some, None, subst, arith, All}
 use Rattle.std.specs.Prelude.{ℤ, MatchOption}
 use Rattle.problem_model.specs.Executions.{IsExecution}
 use Rattle.problem_model.specs.Parents.{IsRow}
@@ -10,12 +10,18 @@ use Rattle.row_pool.specs.Row.{cells_of}
 use Rattle.row_pool.specs.Pool.{row_of}
 use Rattle.row_pool.specs.declared.cell.Pair.{Pair}
 use Rattle.repair.specs.declared.slot.Slot.{Slot}
-use Rattle.repair.specs.Slots.{slot_of, HasRows, IsRowsOf, AreRowsOf}
+use Rattle.repair.specs.Slots.{slot_of, behind, HasRows, IsRowsOf, AreRowsOf}
+use Rattle.distances.specs.Ends.{AreRowsAround}
 use Rattle.repair.specs.Pairs.{IsPairIn}
 use Rattle.repair.proofs.Found.{found, of_events}
 use Rattle.solver.specs.Solver.{SolverLists}
 use Rattle.solver.specs.Current.{IsCurrent, IsSolvedNow}
 use Rattle.solver.proofs.Staying.{solved_now}
+
+-- what holds of all slots holds of the source's
+of_source : (P : Slot → Type 0) (source : Option Slot) (slots : List Slot) (slot : Slot) → source ≡ Some slot → All P (behind source slots) → P slot
+of_source P None slots slot e h = absurd (let z : ⊥ = cc in z)
+of_source P (Some x) slots slot e h = let same : x ≡ slot = cc in subst P same (h 0 x (omega arith))
 
 module _ (s : SolverLists) (current : IsCurrent s) (none : s.contradiction ≡ []) where
   now : IsSolvedNow s
@@ -46,3 +52,14 @@ module _ (s : SolverLists) (current : IsCurrent s) (none : s.contradiction ≡ [
 
     pub to_is : IsRow (length s.graph.nodes) (reversed_table (table_of s.graph)) p (cells_of (row_of s.pool slot.to))
     to_is = subst (λ (n : ℕ). IsRow (length s.graph.nodes) (reversed_table (table_of s.graph)) n (cells_of (row_of s.pool slot.to))) its.1 its.0.to
+
+  -- the rows of the source's slot
+  module _ (slot : Slot) (is : s.kept.source ≡ Some slot) where
+    pub source_has : HasRows s.pool slot
+    source_has = of_source (HasRows s.pool) s.kept.source s.kept.slots slot is current.set_up.own.taken
+
+    its_rows : IsRowsOf (length s.graph.nodes) (table_of s.graph) s.pool slot
+    its_rows = of_source (IsRowsOf (length s.graph.nodes) (table_of s.graph) s.pool) s.kept.source s.kept.slots slot is now.rows
+
+    pub source_rows : AreRowsAround s.graph (row_of s.pool slot.from) (row_of s.pool slot.to)
+    source_rows = (slot.node, its_rows.from, its_rows.to)

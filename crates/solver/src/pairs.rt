@@ -1,9 +1,11 @@
 // What is asked of a graph that has an execution.
-ghost use Rattle.std.specs.Prelude.{◌≡◌, ◌<◌, ◌≤◌, [], length, None, Some, MatchOption};
+ghost use Rattle.std.specs.Prelude.{◌≡◌, ◌<◌, ◌≤◌, [], true, length, None, Some, MatchOption, IfSome};
 ghost use Rattle.problem_model.specs.Parents.{IsRow};
 ghost use Rattle.problem_model.specs.Tables.{reversed_table};
 ghost use Rattle.sync_graph.specs.Graph.{table_of};
 ghost use Rattle.distances.specs.declared.side.Side.TheVariants.{From};
+ghost use Rattle.earliest.specs.Values.{IsEarliestOf};
+ghost use Rattle.distances.specs.Ends.{AreRowsAround};
 ghost use Rattle.distances.specs.Searched.{nodes};
 ghost use Rattle.row_pool.specs.Row.{cells_of};
 ghost use Rattle.row_pool.specs.Pool.{free_rows};
@@ -15,7 +17,7 @@ ghost use Rattle.solver.specs.Current.{IsCurrent};
 
 use crate::solver::Solver;
 use atto::Steps;
-use distances::{Search, Side, find_reach};
+use distances::{Scratch, Search, Side, Surroundings, find_near, find_reach};
 use frontier::IdleQueue;
 use row_pool::{Cell, Pair};
 use std::sync::ledger::Ledger;
@@ -77,6 +79,43 @@ impl Solver {
         ensures pair { IsPairIn self.old.graph p q result }
         ensures leaves { LeavesAnswer self.old self.new }
     {
+        if let Some(pair) = self.near_pair(p, q, steps) {
+            return pair;
+        }
+        self.far_pair(p, q, steps)
+    }
+
+    // The same by searches with the source's rows as a guide, if they tell it by few nodes.
+    fn near_pair<L: Ledger>(&mut self, p: u32, q: u32, steps: &mut Steps<L>) -> Option<Pair>
+        requires current { IsCurrent self.old }
+        requires solved { self.old.contradiction ≡ [] }
+        requires p { p < length self.old.graph.nodes }
+        requires q { q < length self.old.graph.nodes }
+        ensures pair { IfSome result (λ pair. IsPairIn self.old.graph p q pair) }
+        ensures same { self.new ≡ self.old }
+    {
+        let (from, to) = self.kept.source_rows()?;
+        let around = Surroundings {
+            graph: &self.graph,
+            earliest: &self.earliest,
+            from: self.pool.row(from),
+            to: self.pool.row(to),
+        };
+        let behind = &mut self.behind;
+        let ahead = &mut self.ahead;
+        pair_near(&around, p, q, behind, ahead, &mut self.queue, steps)
+    }
+
+    // The same by searches from the first node that end as soon as they know.
+    fn far_pair<L: Ledger>(&mut self, p: u32, q: u32, steps: &mut Steps<L>) -> Pair
+        requires current { IsCurrent self.old }
+        requires solved { self.old.contradiction ≡ [] }
+        requires p { p < length self.old.graph.nodes }
+        requires q { q < length self.old.graph.nodes }
+        requires free { 0 < free_rows self.old.pool }
+        ensures pair { IsPairIn self.old.graph p q result }
+        ensures leaves { LeavesAnswer self.old self.new }
+    {
         let _width = self.pool.width();
         let Some(row) = self.pool.take() else {
             unreachable!()
@@ -87,6 +126,33 @@ impl Solver {
         self.pool.give(row);
         pair
     }
+}
+
+// The greatest differences of two nodes by searches among what is known around them, if they tell both.
+fn pair_near<L: Ledger>(
+    around: &Surroundings,
+    p: u32,
+    q: u32,
+    behind: &mut Scratch,
+    ahead: &mut Scratch,
+    queue: &mut IdleQueue,
+    steps: &mut Steps<L>,
+) -> Option<Pair>
+    requires solved { around.now.earliest.now.is_solved ≡ true }
+    requires earliest { IsEarliestOf around.now.graph.now around.now.earliest.now.values }
+    requires rows { AreRowsAround around.now.graph.now around.now.from.now around.now.to.now }
+    requires p { p < length around.now.graph.now.nodes }
+    requires q { q < length around.now.graph.now.nodes }
+    requires room { length around.now.graph.now.nodes ≤ queue.old }
+    ensures pair { IfSome result (λ pair. IsPairIn around.now.graph.now p q pair) }
+    ensures queue { queue.new ≡ queue.old }
+{
+    let onward = find_near(around, p, q, behind, ahead, queue, steps)?;
+    let back = find_near(around, q, p, behind, ahead, queue, steps)?;
+    Some(Pair {
+        up: onward,
+        down: back,
+    })
 }
 
 // The greatest differences of two nodes, by a search from the first and one towards it, in this row, that end as soon as

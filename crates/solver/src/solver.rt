@@ -8,6 +8,7 @@ ghost use Rattle.repair.specs.Slots.{nothing_kept, with_room};
 ghost use Rattle.solver.specs.Changes.{KeepsAnswer};
 ghost use Rattle.solver.specs.Current.{IsCurrent, IsSolvedNow, IsContradicted};
 
+use distances::Scratch;
 use earliest::Earliest;
 use earliest::laws::growth;
 use frontier::IdleQueue;
@@ -29,6 +30,9 @@ pub struct Solver {
     pub(crate) pool: RowPool,
     pub(crate) kept: Kept,
     pub(crate) queue: IdleQueue,
+    // For questions about two near nodes.
+    pub(crate) behind: Scratch,
+    pub(crate) ahead: Scratch,
 }
 
 impl Model for Solver {
@@ -60,6 +64,8 @@ impl Solver {
             pool: RowPool::new(alloc),
             kept: Kept::new(alloc),
             queue: IdleQueue::new(alloc),
+            behind: Scratch::new(alloc),
+            ahead: Scratch::new(alloc),
         }
     }
 
@@ -77,6 +83,8 @@ impl Solver {
     {
         // It tells that rows stay those of a pool that has grown.
         rows_in_a_grown_pool();
+        let guided = guided_nodes(&self.kept, nodes);
+        reserve_both(&mut self.behind, &mut self.ahead, guided)?;
         self.queue.reserve(nodes)?;
         self.kept.reserve(nodes)?;
         self.pool.reserve(rows, nodes)?;
@@ -117,4 +125,19 @@ impl Solver {
     {
         self.earliest.value(node)
     }
+}
+
+// Of so many nodes those that a guide may be asked about: all where the source has rows, and else none.
+fn guided_nodes(kept: &Kept, nodes: u32) -> u32 {
+    if kept.source_rows().is_some() {
+        nodes
+    } else {
+        0
+    }
+}
+
+// Makes the cells of both at least so many.
+fn reserve_both(behind: &mut Scratch, ahead: &mut Scratch, nodes: u32) -> Result<(), AllocError> {
+    behind.reserve(nodes)?;
+    ahead.reserve(nodes)
 }

@@ -1,6 +1,3 @@
-use Rattle.std.proofs.Common.{ℕ, ◌<◌, length, sym, subst}
-use Rattle.distances.specs.Searched.{nodes}
-use Rattle.repair.proofs.Turning.{back_nodes}
 use Rattle.solver.proofs.Telling.{pair_told, reach_up, reach_down}
 use Rattle.solver.proofs.pairs.pair_by.Goals as goal
 

@@ -1,6 +1,5 @@
 use Rattle.std.proofs.Common.{◌≡◌, ◌+◌, ◌≤◌, true, false, refl, sym, ap, subst, ◌∙◌}
 use Rattle.std.specs.Prelude.{slice_index_or}
-use Rattle.problem_model.specs.Limits.{most_steps}
 use Rattle.sync_graph.specs.Graph.{table_of}
 use Rattle.earliest.specs.declared.inserted.Inserted.{Inserted}
 use Rattle.earliest.specs.declared.inserted.Inserted.TheVariants.{Kept}
