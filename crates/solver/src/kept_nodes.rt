@@ -8,7 +8,7 @@ ghost use Rattle.solver.specs.Changes.{StaysCurrent};
 ghost use Rattle.solver.specs.Current.{IsCurrent};
 
 use crate::search::search_of;
-use crate::solver::Solver;
+use crate::solver::{Solver, reserve_near};
 use atto::Steps;
 use repair::KeepError;
 use std::sync::ledger::Ledger;
@@ -39,7 +39,8 @@ impl Solver {
         self.kept.keep(&search, node, pool, &mut self.queue, steps)
     }
 
-    /// Keeps the two rows of the source's node, which has no slot yet. It takes no memory.
+    /// Keeps the two rows of the source's node, which has no slot yet. It needs no memory; where there is some, it takes
+    /// some for questions about near nodes.
     pub fn keep_source<L: Ledger>(&mut self, node: u32, steps: &mut Steps<L>)
         requires current { IsCurrent self.old }
         requires none { self.old.kept.source ≡ None }
@@ -49,6 +50,8 @@ impl Solver {
         ensures free { free_rows self.new.pool + 2 ≡ free_rows self.old.pool }
         ensures leaves { StaysCurrent self.old self.new }
     {
+        let nodes = self.graph.nodes();
+        reserve_near(&mut self.behind, &mut self.ahead, nodes);
         let search = search_of(&self.graph, &self.earliest);
         let pool = &mut self.pool;
         self.kept

@@ -84,7 +84,7 @@ impl Solver {
         // It tells that rows stay those of a pool that has grown.
         rows_in_a_grown_pool();
         let guided = guided_nodes(&self.kept, nodes);
-        reserve_both(&mut self.behind, &mut self.ahead, guided)?;
+        reserve_near(&mut self.behind, &mut self.ahead, guided);
         self.queue.reserve(nodes)?;
         self.kept.reserve(nodes)?;
         self.pool.reserve(rows, nodes)?;
@@ -136,8 +136,9 @@ fn guided_nodes(kept: &Kept, nodes: u32) -> u32 {
     }
 }
 
-// Makes the cells of both at least so many.
-fn reserve_both(behind: &mut Scratch, ahead: &mut Scratch, nodes: u32) -> Result<(), AllocError> {
-    behind.reserve(nodes)?;
-    ahead.reserve(nodes)
+// Makes the cells of both at least so many, where memory suffices. Else near nodes are searched for as others are.
+pub(crate) fn reserve_near(behind: &mut Scratch, ahead: &mut Scratch, nodes: u32) {
+    if behind.reserve(nodes).is_ok() {
+        let _is_enough = ahead.reserve(nodes).is_ok();
+    }
 }
