@@ -21,6 +21,8 @@ LETTER = 6.1
 # How wide a histogram is, how far it is from its panel, and how many bars it has.
 SIDE, GAP, BARS = 150, 16, 38
 PANELS_MOST = 24
+# How many points a column of an envelope has on average, unless it is a pixel wide.
+FULL = 6
 # How many marks an axis has at most, across and up; and it counts from a number near what is drawn, if that is farther off than so many times
 # its own size.
 MARKS_ACROSS, MARKS_UP, FAR = 9, 5, 100
@@ -169,24 +171,30 @@ class Drawing:
             paths.append(f"M{x:.1f} {low:.1f}V{high:.1f}{''.join(ticks)}")
         return [f'<path d="{"".join(paths)}" stroke="{ink}" stroke-opacity="{shade}" fill="none"/>'] if paths else []
 
+    def column_wide(self) -> int:
+        """Returns how many pixels a column of an envelope is wide: so many that hardly one between others has no points."""
+        return max(FULL * (self.right - LEFT) // len(self.panel.points), 1)
+
     def columns(self) -> Iterator[tuple[int, list[float]]]:
-        """Yields for each pixel across, with points, where the highest and the lowest of their greatest ends lie, and of their least ends."""
+        """Yields for each column, with points, its middle, where the highest and the lowest of their greatest ends lie, and of their least ends."""
         found: dict[int, list[int]] = {}
+        wide = self.column_wide()
         for time, least, greatest in self.panel.points:
             low, high = self.low if least is None else least, self.high if greatest is None else greatest
-            own = found.setdefault(round(self.x(time)), [high, high, low, low])
+            own = found.setdefault(round(self.x(time) / wide) * wide, [high, high, low, low])
             own[:] = max(own[0], high), min(own[1], high), max(own[2], low), min(own[3], low)
         for at, own in sorted(found.items()):
             yield at, [self.y(it, 0) for it in own]
 
     def envelope(self) -> list[str]:
-        """Returns what many points cover: of each pixel across all between the ends, and more strongly where the ends themselves lie."""
+        """Returns what many points cover: of each column all between the ends, and more strongly where the ends themselves lie."""
         paths = ["", "", ""]
         for x, (top, top_foot, foot_top, foot) in self.columns():
             for at, (high, low) in enumerate(((top, foot), (top, top_foot), (foot_top, foot))):
                 paths[at] += f"M{x} {high - 0.5:.1f}V{low + 0.5:.1f}"
         shades = ((self.panel.ink, 0.15), (self.panel.ink, 0.85), ("#333", 0.7))
-        return [f'<path d="{path}" stroke="{ink}" stroke-opacity="{shade}" fill="none"/>' for path, (ink, shade) in zip(paths, shades)]
+        wide = self.column_wide()
+        return [f'<path d="{path}" stroke="{ink}" stroke-width="{wide}" stroke-opacity="{shade}" fill="none"/>' for path, (ink, shade) in zip(paths, shades)]
 
     def histogram(self) -> list[str]:
         """Returns how many points have their least end, and their greatest, at each height."""

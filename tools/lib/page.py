@@ -112,8 +112,8 @@ def page_data(whole: Timeline, most: int, around: Collection[str]) -> dict[str, 
 def page(found: Timeline, title: str, most: int = EVENTS_MOST, around: Collection[str] = (), pictures: Iterable[str] | None = None) -> str:
     """Returns the page of at most so many events, around the first of these names; with the pictures of clocks and of delays, which are drawn
     for it where none are given."""
-    # (no text can end the script)
-    data = json.dumps(page_data(found, most, around), separators=(",", ":")).replace("<", "\\u003c")
+    # (no text can end the script, nor the text in it, which a browser reads sooner than the same as a part of the script)
+    data = json.dumps(page_data(found, most, around), separators=(",", ":")).replace("<", "\\u003c").replace("\\", "\\\\").replace("'", "\\'")
     charts = "".join(embedded(it) for it in pictures or (offset_chart(found), delay_chart(found)))
     parts = {"TITLE": escape(title), "DATA": data, "CHARTS": charts or "<p>Nothing is known of clocks or delays.</p>", "SCRIPT": "".join(part(it) for it in SCRIPTS)}
     return re.sub("@@([A-Z]+)@@", lambda it: parts[it[1]], part("page.html"))

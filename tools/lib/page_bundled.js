@@ -1,17 +1,25 @@
 // Arrows: several of one direction that begin and end within a few pixels are one arrow with their count.
-const NEAR = 12, SEVERAL = 3, BUNDLES_OPEN = 8;
+const NEAR = 12, FAR = 192, ARROWS_MOST = 200, SEVERAL = 3, BUNDLES_OPEN = 8;
 // The boxes of the counts that are drawn, each with its bundle.
 let counts = [];
 
-// Returns bundles of messages, which come in the order of where they begin; those that are near to few are single.
-function bundled(found) {
-  const open = new Map(), groups = [];
+// Returns bundles of messages; where there would be many arrows, of messages that are farther apart.
+function bundledFew(found) {
+  let room = NEAR, bundles = bundled(found, room);
+  while (room < FAR && bundles.length > ARROWS_MOST) bundles = bundled(found, room *= 2);
+  return bundles;
+}
+
+// Returns bundles of messages, which come in the order of where they begin; those that are near to few are single. Wide bundles of
+// different hosts do not begin together, so that their arrows do not lie on one another.
+function bundled(found, room = NEAR) {
+  const early = (ways) => room > NEAR ? room * (ways * 0.618 % 1) : 0, open = new Map(), groups = [];
   for (const it of found) {
     const way = it.message.send.host + "," + it.message.receive.host;
-    const near = (open.get(way) || []).filter((one) => it.x1 - one.from <= NEAR);
-    let own = near.find((one) => Math.abs(it.x2 - one.to) <= NEAR);
+    const before = open.has(way) ? 0 : early(open.size), near = (open.get(way) || []).filter((one) => it.x1 - one.from <= room);
+    let own = near.find((one) => Math.abs(it.x2 - one.to) <= room);
     if (!own) {
-      own = { from: it.x1, to: it.x2, all: [] };
+      own = { from: it.x1 - before, to: it.x2 - before, all: [] };
       groups.push(own); near.push(own);
     }
     own.all.push(it);
@@ -28,8 +36,9 @@ function bundle(all) {
   return { messages: all.map((it) => it.message), ...place };
 }
 
-// Fills what the arrows of a bundle cover.
-function fillBundle({ from, to, y1, y2 }) {
+// Fills what the arrows of a bundle cover, the wider the more faintly.
+function fillBundle({ from, to, y1, y2 }, alpha) {
+  pen.globalAlpha = alpha * Math.min(0.25, 2 / (from[1] - from[0] + 1));
   pen.beginPath();
   pen.moveTo(from[0], y1); pen.lineTo(from[1], y1); pen.lineTo(to[1], y2); pen.lineTo(to[0], y2);
   pen.fill();
@@ -57,20 +66,20 @@ function messagesInSight(xs) {
 
 // Draws the arrows, and returns them.
 function drawArrows(xs) {
-  const found = messagesInSight(xs), bundles = bundled(found);
+  const found = messagesInSight(xs), bundles = bundledFew(found);
   const alpha = Math.max(0.12, Math.min(1, 120 / (bundles.length || 1)));
   counts = [];
   pen.strokeStyle = pen.fillStyle = "#555"; pen.lineWidth = 1;
-  pen.globalAlpha = alpha * 0.25;
-  for (const it of bundles) if (it.messages.length > 1) fillBundle(it);
+  for (const it of bundles) if (it.messages.length > 1) fillBundle(it, alpha);
   pen.globalAlpha = alpha;
   if (bundles.length > MANY) {
     pen.beginPath();
     for (const { x1, y1, x2, y2 } of bundles) { pen.moveTo(x1, y1); pen.lineTo(x2, y2); }
     pen.stroke();
   } else {
+    const strength = Math.min(1, 60 / bundles.length);
     for (const it of bundles) {
-      pen.lineWidth = 1.1 + Math.min(Math.log2(it.messages.length) * 0.5, 3);
+      pen.lineWidth = 1.1 + Math.min(Math.log2(it.messages.length) * 0.5, 3) * strength;
       arrow(it.x1, it.y1, it.x2, it.y2);
     }
   }

@@ -200,7 +200,7 @@ window.addEventListener("keydown", (event) => {
   if (event.key === "-") zoom(1 / 0.6, (LEFT + wide) / 2);
   if (event.key === "Escape") choose(null);
 });
-function fit() { view = [low, high]; redraw(); }
+function fit() { view = [low, high]; sayCounts(0, false); redraw(); }
 
 for (const at of bases) el("from").add(new Option(at.event.name));
 el("connection").add(new Option("all", ALL));
@@ -219,7 +219,9 @@ function open() {
   const first = ends.length ? finite(ends)[0] : knots[0], from = knots.findIndex((it) => it >= first), last = knots.length - 1;
   const isPart = knots.length > KNOTS_ALL, left = from || isPart ? place(knots[from]) : low;
   const right = isPart ? place(knots[Math.min(from + KNOTS_PART, last)]) : high;
-  view = left === low ? [low, right] : [left - (right - left || 1) * 0.03, right];
+  // (nothing earlier is in sight)
+  const room = Math.min((right - left || 1) * 0.03, from ? (left - place(knots[from - 1])) / 2 : Infinity);
+  view = left === low ? [low, right] : [left - room, right];
   sayCounts(shown.filter((it) => times[it.index] < first).length, isPart);
   redraw();
 }
@@ -229,7 +231,7 @@ function sayCounts(before, isPart) {
   const told = (own, all, name) => `${own === all ? "" : `${own} of `}${all} ${name}`;
   const counted = `${told(shown.length, DATA.all[0], "events")}, ${told(shownMessages.length, DATA.all[1], "messages")}`;
   const earlier = before ? `, and ${before} ${before === 1 ? "event is" : "events are"} earlier` : "";
-  const begin = `; it begins at the first ${shownMessages.length ? "message" : "event"}${earlier}: all shows all`;
+  const begin = `; it begins at the first ${shownMessages.length ? "message" : "event"}${earlier}; “all” shows all`;
   el("said").textContent = counted + (shown.length ? "" : ": no event is like that") + (before || isPart ? begin : "");
 }
 layTimes(); open();

@@ -42,16 +42,20 @@ function place(time) {
 
 // ---- drawing
 let wide = 100, tall = 100, chosen = null, hovered = null, relations = null, spots = [];
-let rowHigh = 110;
+// How far apart the lines of hosts are, and where what stands below the last one ends.
+let rowHigh = 110, foot = 100;
 const rowY = (host) => AXIS + ABOVE + host * rowHigh;
+const laneY = (host, lane) => rowY(host) + 9 + lane * LANE;
 const across = (at) => LEFT + (at - view[0]) / (view[1] - view[0]) * (wide - LEFT);
 const near = (at) => Math.max(-1e5, Math.min(1e5, across(at)));
 const x = (time) => near(place(time));
 
 function resize() {
   const ratio = window.devicePixelRatio || 1;
-  rowHigh = Math.min(Math.max((plot.clientHeight - AXIS) / DATA.hosts.length - 8, ABOVE + LANES * LANE + BELOW), 210);
-  wide = plot.clientWidth; tall = Math.max(plot.clientHeight, AXIS + rowHigh * DATA.hosts.length + 6);
+  const last = DATA.hosts.length - 1, under = LANES * LANE + BELOW;
+  rowHigh = Math.min(Math.max((plot.clientHeight - AXIS - ABOVE - under) / (last || 1), ABOVE + under), ROW_MOST);
+  foot = rowY(last) + under;
+  wide = plot.clientWidth; tall = Math.max(plot.clientHeight, foot);
   canvas.width = wide * ratio; canvas.height = tall * ratio;
   canvas.style.width = wide + "px"; canvas.style.height = tall + "px";
   pen.setTransform(ratio, 0, 0, ratio, 0, 0);
@@ -78,15 +82,15 @@ function redraw() {
 function draw() {
   pen.clearRect(0, 0, wide, tall);
   spots = [];
-  const xs = spotOf.map(near);
+  const xs = spotOf.map(near), count = shown.filter((it) => xs[it.index] > LEFT - 8 && xs[it.index] < wide).length;
   drawAxis(xs);
   pen.save();
   pen.beginPath(); pen.rect(LEFT - 8, AXIS, wide, tall); pen.clip();
   drawLines();
-  drawBars(xs);
+  drawBars(xs, count > CROWDED);
   const arrows = drawArrows(xs);
   drawProof(xs);
-  drawPoints(xs);
+  drawPoints(xs, count);
   drawNames(arrows);
   drawNumbers(xs);
   pen.restore();
@@ -105,7 +109,7 @@ function drawAxis(xs) {
   let last = -Infinity;
   const mark = (at, text) => {
     if (at < LEFT || at > wide - 34 || at - last < 92) return;
-    last = at; line(at, AXIS - 6, at, tall); pen.fillText(text, at, AXIS - 12);
+    last = at; line(at, AXIS - 6, at, foot); pen.fillText(text, at, AXIS - 12);
   };
   if (isSqueezed) {
     // (marks have so many digits that neighbours differ, however far the first event is)
@@ -121,33 +125,42 @@ function drawAxis(xs) {
   for (let k = Math.ceil(from / step); k * step <= to && k - from / step < 200; k++) mark(x(k * step), inShort(k * step, step));
 }
 
-// Bars lie below their host's line, in lanes, so that they do not cover one another while there is room.
-function drawBars(xs) {
-  const ends = DATA.hosts.map(() => Array(LANES).fill(-Infinity));
+// Bars lie below their host's line, in lanes, so that they do not cover one another while there is room. The last lane has
+// what the bars in it cover together; where events are crowded, there is no other one.
+function drawBars(xs, isCrowded) {
+  const last = isCrowded ? 0 : LANES - 1, ends = DATA.hosts.map(() => Array(last + 1).fill(-Infinity));
   for (const it of byLeast) {
-    const x1 = near(leastOf[it.index]), x2 = near(greatestOf[it.index]), at = xs[it.index];
+    const x1 = near(leastOf[it.index]), x2 = near(greatestOf[it.index]);
     if (x2 < LEFT - 8 || x1 > wide) continue;
-    const lanes = ends[it.host];
-    let lane = lanes.findIndex((end) => end < x1 - 2);
-    if (lane < 0) lane = LANES - 1;
-    lanes[lane] = Math.max(lanes[lane], x2);
-    const y = rowY(it.host) + 9 + lane * LANE, isShown = it === chosen || it === hovered;
+    const lanes = ends[it.host], free = lanes.findIndex((end) => end < x1 - 2), lane = free < 0 ? last : free;
+    const end = lanes[lane], isStrong = it === chosen || it === hovered;
+    lanes[lane] = Math.max(end, x2);
     pen.fillStyle = ink(it);
-    if (at > LEFT - 8 && at < wide && (lane || isShown)) {
-      pen.globalAlpha = isShown ? 0.8 : 0.25; pen.fillRect(at - 0.5, rowY(it.host), 1, y - rowY(it.host));
-    }
-    pen.globalAlpha = isShown ? 1 : 0.55;
-    pen.fillRect(x1, y - 1.5, Math.max(x2 - x1, 1.5), 3);
-    if (x2 - x1 < 3 && !isShown) continue;
-    if (isFinite(least[it.index])) pen.fillRect(x1 - 0.6, y - 3, 1.2, 6);
-    if (isFinite(greatest[it.index])) pen.fillRect(Math.max(x2, x1 + 1.5) - 0.6, y - 3, 1.2, 6);
+    if (isStrong || (free >= 0 && !isCrowded)) drawBar(it, x1, x2, xs[it.index], lane, isStrong);
+    else if (x2 > end) drawSpan(Math.max(x1, end), x2, laneY(it.host, lane), 0.55);
   }
   pen.globalAlpha = 1;
 }
 
-function drawPoints(xs) {
-  const isInSight = (it) => xs[it.index] > LEFT - 8 && xs[it.index] < wide, visible = shown.filter(isInSight).length;
-  const size = visible > 1500 ? 2 : visible > 400 ? 3 : 4;
+function drawSpan(x1, x2, y, alpha) {
+  pen.globalAlpha = alpha; pen.fillRect(x1, y - 1.5, Math.max(x2 - x1, 1.5), 3);
+}
+
+// Draws a bar with its ends and, where the event is in sight, a line up to it.
+function drawBar(it, x1, x2, at, lane, isStrong) {
+  const y = laneY(it.host, lane);
+  if (at > LEFT - 8 && at < wide && (lane || isStrong)) {
+    pen.globalAlpha = isStrong ? 0.8 : 0.25; pen.fillRect(at - 0.5, rowY(it.host), 1, y - rowY(it.host));
+  }
+  drawSpan(x1, x2, y, isStrong ? 1 : 0.55);
+  if (x2 - x1 < 3 && !isStrong) return;
+  if (isFinite(least[it.index])) pen.fillRect(x1 - 0.6, y - 3, 1.2, 6);
+  if (isFinite(greatest[it.index])) pen.fillRect(Math.max(x2, x1 + 1.5) - 0.6, y - 3, 1.2, 6);
+}
+
+// Draws the events, of which so many are in sight.
+function drawPoints(xs, count) {
+  const size = count > CROWDED ? 2 : count > 400 ? 3 : 4;
   for (const it of shown) {
     const at = xs[it.index], y = rowY(it.host);
     if (at < LEFT - 8 || at > wide + 8) continue;

@@ -1,7 +1,7 @@
 // What is drawn: events at their times in the earliest execution, since a chosen event; a bar from the least to the greatest such time of
 // all executions. Orders are those that the program gave, or follow from the ends of bars from one event; all others are not known here.
 const INKS = ["#1f5fa8", "#b3541e", "#2f7d4f", "#7a4aa0", "#a8324e", "#4d6b7a", "#8a6d1a", "#5a5a5a"];
-const OPEN = "#e08a00", EARLIER = "#1c7a3c", LATER = "#3b6fd4", EQUAL = "#000", AXIS = 34, ABOVE = 46, LANES = 8, LANE = 6, BELOW = 14, MANY = 1200;
+const OPEN = "#e08a00", EARLIER = "#1c7a3c", LATER = "#3b6fd4", EQUAL = "#000", AXIS = 34, ABOVE = 46, LANES = 8, LANE = 6, BELOW = 14, ROW_MOST = 340, MANY = 1200, CROWDED = 1500;
 const LEFT = Math.max(70, Math.min(300, 26 + 9 * Math.max(...DATA.hosts.map((it) => it.length))));
 const UNITS = 1000000000n;
 const el = (id) => document.getElementById(id);
@@ -22,7 +22,7 @@ const exact = (value) => {
 };
 // Returns ns in few digits: six, and more where a neighbour is only `gap` ns away.
 const inShort = (ns, gap = Infinity) => {
-  const [size, name] = Math.abs(ns) >= 1e9 ? [1e9, "s"] : Math.abs(ns) >= 1e6 ? [1e6, "ms"] : Math.abs(ns) >= 1e3 ? [1e3, "µs"] : [1, "ns"];
+  const [size, name] = Math.abs(ns) >= 1e9 ? [1e9, "s"] : Math.abs(ns) >= 1e6 ? [1e6, "ms"] : Math.abs(ns) >= 1e3 ? [1e3, "us"] : [1, "ns"];
   const digits = isFinite(gap) && gap > 0 ? Math.min(Math.max(6, Math.ceil(Math.log10(Math.abs(ns) / gap || 1)) + 2), 15) : 6;
   return String(Number((ns / size).toPrecision(digits))) + " " + name;
 };

@@ -63,9 +63,9 @@ def loses(least: int, greatest: int) -> bool:
 
 
 def span_text(least: int | None, greatest: int | None) -> str:
-    """Returns what lies between two ends, `least to greatest`; where they are great and near to each other, a number with what is less and more."""
+    """Returns what lies between two ends, `least to greatest`, one number where both are it; where they are great and near to each other, a number with what is less and more."""
     if least is None or greatest is None or not loses(least, greatest):
-        return f"{least_text(least)} to {greatest_text(greatest)}"
+        return " to ".join(dict.fromkeys((least_text(least), greatest_text(greatest))))
     middle = anchor(least, greatest)
     size, name = unit_of(max(abs(least), abs(greatest)))
     told = f"{decimal_text(middle, size * UNITS, digits=DECIMALS[name])} {name}"

@@ -22,7 +22,8 @@ window.placeOf = (name) => {
 window.middleOf = (selector) => {
   const it = document.querySelector(selector);
   it.scrollIntoView();
-  const box = it.getBoundingClientRect();
+  // (what goes over two lines has two boxes)
+  const box = it.getClientRects()[0];
   return [box.left + box.width / 2, box.top + box.height / 2];
 };
 window.inked = () => {

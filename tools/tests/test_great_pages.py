@@ -32,7 +32,8 @@ def great(count: int = COUNT) -> timeline.Timeline:
 
 def data_of(text: str) -> dict[str, Any]:
     """Returns what the script of a page reads."""
-    return json.loads(re.search(r"const DATA = (.*);\n", text)[1])
+    quoted = re.search(r"const DATA = JSON.parse\('(.*)'\);\n", text)[1]
+    return json.loads(re.sub(r"\\(.)", r"\1", quoted))
 
 
 def columns_of(panel: str, shade: str) -> dict[int, tuple[float, float]]:

@@ -101,7 +101,7 @@ class Page(unittest.TestCase):
         self.assertEqual(plain, ["3600500000000 ns, less 952 ns, plus 1003 ns", "-7200000000000 ns, less 700 ns, plus 1300 ns", "between 10 ns and 20 ns"])
 
     def test_marks_that_are_near_to_each_other_differ(self) -> None:
-        self.assertEqual(run_page(made()[0])["marks"], ["3600.5 s", "3600.500001 s", "3600.50000101 s", "1 µs"])
+        self.assertEqual(run_page(made()[0])["marks"], ["3600.5 s", "3600.500001 s", "3600.50000101 s", "1 us"])
 
     def test_an_event_is_chosen_by_the_address(self) -> None:
         told = run_page(made()[0], "#event=b%232")
