@@ -20,7 +20,7 @@ READY = """new Promise((done) => {
 
 
 class Browser:
-    """A page of Chromium of a certain size in pixels. Raises EOFError where it ends, and AssertionError where the page fails."""
+    """A page of Chromium of a certain size in pixels. Raises EOFError where it ends, and AssertionError where the page fails, or opens a dialog."""
 
     def __init__(self, wide: int = 1150, high: int = 600) -> None:
         assert CHROMIUM
@@ -33,10 +33,13 @@ class Browser:
         os.close(its_in)
         os.close(its_out)
         self.output, self.input = open(own_out, "wb", buffering=0), open(own_in, "rb")
-        self.rest, self.count, self.session = b"", 0, ""
+        self.rest, self.count, self.session, self.faults = b"", 0, "", []
         target = next(it for it in self.call("Target.getTargets")["targetInfos"] if it["type"] == "page")["targetId"]
         self.session = self.call("Target.attachToTarget", targetId=target, flatten=True)["sessionId"]
         self.call("Emulation.setDeviceMetricsOverride", width=wide, height=high, deviceScaleFactor=1, mobile=False)
+        for domain in ("Page", "Runtime"):
+            self.call(f"{domain}.enable")
+        self.call("Performance.enable", timeDomain="threadTicks")
 
     def read(self) -> dict[str, Any]:
         """Returns the next message of the browser. Raises EOFError where it ended."""
@@ -50,16 +53,29 @@ class Browser:
 
     def call(self, method: str, **parameters: Any) -> dict[str, Any]:
         """Returns what a command of the browser returns."""
+        own = self.send(method, parameters)
+        while True:
+            found = self.read()
+            self.note(found)
+            if found.get("id") == own:
+                assert "error" not in found, found
+                return found["result"]
+
+    def send(self, method: str, parameters: dict[str, Any]) -> int:
+        """Sends a command, and returns its number."""
         self.count += 1
         message = {"id": self.count, "method": method, "params": parameters}
         if self.session:
             message["sessionId"] = self.session
         self.output.write(json.dumps(message).encode() + b"\0")
-        while True:
-            found = self.read()
-            if found.get("id") == self.count:
-                assert "error" not in found, found
-                return found["result"]
+        return self.count
+
+    def note(self, found: dict[str, Any]) -> None:
+        """Notes what the page may not do: an error that nothing takes, and a dialog, which is closed, for the page waits for it."""
+        if found.get("method") == "Page.javascriptDialogOpening":
+            self.send("Page.handleJavaScriptDialog", {"accept": True})
+        if found.get("method") in ("Page.javascriptDialogOpening", "Runtime.exceptionThrown"):
+            self.faults.append(found["params"])
 
     def open(self, path: str, more: str = "") -> None:
         """Opens a file, with what stands behind its name in the address, and waits until it is drawn."""
@@ -82,9 +98,19 @@ class Browser:
             self.call("Input.dispatchMouseEvent", type=kind, x=x, y=y, **more)
         self.settle()
 
+    def write(self, text: str) -> None:
+        """Types a text into the field that was clicked."""
+        self.call("Input.insertText", text=text)
+        self.settle()
+
     def settle(self) -> None:
         """Waits until what was changed is drawn."""
         self.value(DRAWN)
+        assert not self.faults, self.faults
+
+    def seconds(self) -> float:
+        """Returns how long the page has made a processor work since it was opened, however busy the host is."""
+        return next(it["value"] for it in self.call("Performance.getMetrics")["metrics"] if it["name"] == "TaskDuration")
 
     def picture(self) -> bytes:
         """Returns what the page looks like, as PNG."""

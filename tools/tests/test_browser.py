@@ -11,9 +11,10 @@ import timeline
 from browser import CHROMIUM, Browser
 from test_timeline import made
 
-EVIL = "<script>document.title = 'evil'</script><img src=x onerror=\"document.title = 'evil'\">"
+EVIL = "<script>alert(1)</script><img src=x onerror=\"alert(2)\">'</script>\\"
 # What the tests ask of the page: where an event is, and the middle of what a selector finds, in pixels of the window;
-# how many pixels of the picture are drawn on; how long one drawing takes, in ms; what colour a place between two events has.
+# how many pixels of the picture are drawn on; which bars of those in sight are not drawn on somewhere in the first lane;
+# what colour a place between two events has.
 HELP = """
 window.placeOf = (name) => {
   const [x, y] = spots.find((it) => it[2].name === name), box = canvas.getBoundingClientRect();
@@ -32,10 +33,13 @@ window.inked = () => {
   for (let k = 3; k < data.length; k += 4) count += data[k] > 0;
   return count;
 };
-window.timed = () => {
-  const from = performance.now();
-  for (let k = 0; k < 5; k++) draw();
-  return (performance.now() - from) / 5;
+window.uncovered = () => {
+  pen.clearRect(0, 0, wide, tall);
+  drawBars(spotOf.map(near), true);
+  const { data } = pen.getImageData(0, 0, canvas.width, canvas.height);
+  const isInked = (x, y) => [-1, 0, 1].some((by) => data[4 * (Math.floor(y) * canvas.width + Math.floor(x) + by) + 3]);
+  const places = (it) => [leastOf, spotOf, greatestOf].map((all) => near(all[it.index])).filter((x) => x > LEFT && x < wide);
+  return shown.filter((it) => !places(it).every((x) => isInked(x, laneY(it.host, 0)))).map((it) => it.name);
 };
 window.colour = (one, other) => {
   const [x1, y] = spots.find((it) => it[2].name === one), [x2] = spots.find((it) => it[2].name === other);
@@ -87,9 +91,28 @@ class Opened(unittest.TestCase):
         self.open(making_timelines.timeline(5000, 4))
         self.assertEqual(self.value("[events.length, spots.length < 200]"), [5000, True])
         self.assertGreater(self.value("inked()"), 5000)
+        self.assertIn("it begins at the first message", self.value("el('said').textContent"))
         self.click_on("#fit")
         self.assertEqual(self.value("[spots.length, counts.length > 0]"), [5000, True])
-        self.assertLess(self.value("timed()"), 2000)
+        self.assertEqual(self.value("el('said').textContent"), "5000 events, 2371 messages")
+
+    def test_an_overview_has_few_arrows_for_all_messages(self) -> None:
+        self.open(making_timelines.timeline(5000, 4), "#all=true")
+        arrows = "bundledFew(messagesInSight(spotOf.map(near)))"
+        sizes = self.value(f"{arrows}.map((it) => it.messages.length)")
+        self.assertEqual((sum(sizes), len(sizes) < 250), (self.value("messages.length"), True))
+        self.assertEqual(self.value(f"new Set({arrows}.flatMap((it) => it.messages)).size"), sum(sizes))
+
+    def test_bars_that_are_drawn_together_cover_what_each_does(self) -> None:
+        self.open(making_timelines.timeline(1700, 8), "#all=true")
+        self.assertEqual(self.value("[spots.length > CROWDED, uncovered()]"), [True, []])
+
+    def test_fifty_thousand_events_are_drawn_within_two_seconds(self) -> None:
+        self.open(making_timelines.timeline(50_000, 8))
+        before = self.browser.seconds()
+        self.click_on("#fit")
+        self.assertEqual(self.value("spots.length"), 50_001)
+        self.assertLess(self.browser.seconds() - before, 2)
 
     def test_a_click_on_the_count_of_a_bundle_goes_nearer(self) -> None:
         self.open(making_timelines.timeline(2000, 2), "#all=true")
@@ -105,6 +128,11 @@ class Opened(unittest.TestCase):
         self.click("a#2")
         self.assertEqual(self.value("[chosen.name, document.querySelector('h2').textContent]"), ["a#2", "a#2"])
         self.assertIn("a#2 was at most 80 ns after a#1", self.aside())
+        lines = "[...document.querySelectorAll('ol.chain li')].map((it) => it.textContent)"
+        self.assertEqual([it.split(":")[0].replace("\u00a0", " ") for it in self.value(lines)], [f"a#2 at {it} 80 ns after a#1" for it in ("most", "least")])
+        self.click("b#1")
+        self.assertRegex(self.aside(), "since a#1between 10 ns and 20 ns.*came froma#1, delay 10 ns to 20 ns")
+        self.click("a#2")
         self.click("b#3", True)
         self.assertEqual(self.value("[chosen.name, second.name]"), ["a#2", "b#3"])
         self.assertEqual(self.value("document.querySelector('h3').textContent"), "a#2 and b#3")
@@ -126,8 +154,9 @@ class Opened(unittest.TestCase):
         self.value(f"put('connection', '{first}', 'change')")
         count = self.value("shown.length")
         self.assertTrue(0 < count < 60)
-        self.value("put('connection', '', 'change'); put('text', 'needle', 'input')")
-        self.browser.settle()
+        self.value("put('connection', '', 'change')")
+        self.click_on("#text")
+        self.browser.write("needle")
         self.assertTrue(0 < self.value("shown.length") < count)
         self.assertTrue(self.value("shown.some((it) => it.text === 'needle')"))
         self.assertTrue(self.value("spots.every((it) => it[2].isShown)"))
@@ -150,10 +179,20 @@ class Opened(unittest.TestCase):
             it.host = names[it.host]
         self.open(found)
         self.click(found.events[0].name)
+        self.assertIn(EVIL, self.value("el('tip').textContent"))
         self.click(found.events[3].name, True)
-        self.value("hovered = events[0]; tell(); showTip({ offsetX: 200, offsetY: 100 })")
-        self.assertIn(EVIL, self.aside())
+        self.click_on("#turn")
+        self.assertEqual([EVIL in self.value(f"el('{it}').textContent") for it in ("aside", "charts")], [True, True])
         self.assertEqual(self.value("[document.title, document.images.length, document.scripts.length]"), [f"Of {EVIL}", 0, 1])
+
+    def test_clocks_and_delays_stand_in_the_place_of_the_events(self) -> None:
+        self.open(making_timelines.timeline(60, 3))
+        pictures = "[...document.querySelectorAll('#charts svg')].map((it) => it.getBoundingClientRect().height > 100)"
+        self.click_on("#turn")
+        self.assertEqual(self.value(f"[canvas.clientHeight, {pictures}]"), [0, [True, True]])
+        self.assertEqual(self.value("[...document.querySelectorAll('#charts g')].length"), 3 + 6)
+        self.click_on("#turn")
+        self.assertEqual(self.value(f"[canvas.clientHeight > 100, {pictures}]"), [True, [False, False]])
 
 
 if __name__ == "__main__":

@@ -137,8 +137,8 @@ class Page(unittest.TestCase):
         self.assertTrue(self.told(found, "return view[0] === low && view[1] === high;"))
         # (now the first one is sent by b#2)
         found.messages = found.messages[1:]
-        before, left, right = self.told(found, "return [place(times[2]), view[0], view[1]];")
-        self.assertTrue(left < before < left + 0.05 * (right - left), (left, before, right))
+        earlier, first, left, right = self.told(found, "return [place(times[1]), place(times[2]), view[0], view[1]];")
+        self.assertTrue(earlier < left < first < left + 0.05 * (right - left), (earlier, left, first, right))
 
     def test_a_great_timeline_begins_with_a_part(self) -> None:
         first = "Math.min(...messages.map((it) => spotOf[it.send.index]))"
