@@ -26,6 +26,16 @@ def read_units(text: str) -> int:
     return int(text.replace(".", ""))
 
 
+def read_all_ns(texts: list[str]) -> list[Optional[int]]:
+    """Returns what `read_ns` returns of each of many numbers, in less time.
+
+    >>> read_all_ns(["25.500000000", "-inf"]), read_all_ns([])
+    ([25500000000, None], [])
+    """
+    digits = " ".join(texts).replace(".", "").split(" ") if texts else []
+    return [None if it.endswith("inf") else int(it) for it in digits]
+
+
 def ns_text(units: int) -> str:
     """Returns attoseconds as a session prints ns.
 

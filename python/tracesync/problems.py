@@ -204,18 +204,19 @@ def read_problem(lines: Iterable[str]) -> Problem:
     """Returns the problem that the lines of a problem text spell."""
     found = Problem(lines=list(lines))
     for line in found.lines:
+        # (of these there are millions)
         words = line.split(" ")
-        if words[0] == "clock":
-            found.clocks[words[1]] = Clock(*(int(it) for it in words[2:6]))
-        elif words[0] == "follow":
-            found.follows[words[1], words[2]] = int(words[3])
-        elif words[0] == "event":
+        if words[0] == "event":
             found.events[words[1]] = Stamped(words[2], int(words[3]))
             if len(words) > 4:
                 found.bounds[words[1]] = StampBounds(int(words[4]), int(words[5]))
         elif words[0] == "message":
             most = None if words[4] == "none" else int(words[4])
             found.messages[words[1], words[2]] = Delay(int(words[3]), most)
+        elif words[0] == "clock":
+            found.clocks[words[1]] = Clock(*(int(it) for it in words[2:6]))
+        elif words[0] == "follow":
+            found.follows[words[1], words[2]] = int(words[3])
     return found
 
 

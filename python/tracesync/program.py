@@ -8,11 +8,12 @@ import shutil
 import subprocess
 import threading
 import weakref
-from collections.abc import Sequence
+from collections.abc import Iterable, Iterator, Sequence
+from itertools import islice
 from typing import Optional
 
 from .errors import Ended, NoProgram
-from .replies import ENDS, is_texted, lines_behind
+from .replies import ENDS, is_last, is_texted, lines_behind
 
 # Here stands the folder of this package: in a clone the top folder has the crates, and in an installed package the
 # program stands there.
@@ -68,6 +69,14 @@ def run_over(
     if status not in statuses:
         raise Ended(lines, status)
     return lines
+
+
+def to_end(lines: Iterable[bytes]) -> Iterator[bytes]:
+    """Yields lines up to the one that ends a text."""
+    for line in lines:
+        yield line
+        if line == b"end\n":
+            return
 
 
 def end(process: subprocess.Popen[bytes], at_once: bool = False) -> int:
@@ -149,23 +158,19 @@ class LineSession:
             self._process.stdin.flush()
 
     def _read_reply(self) -> list[str]:
-        reply = [self._line([])]
-        # (how long a reply is, its first line says)
-        if is_texted(reply[0]):
-            while reply[-1] != "end":
-                reply.append(self._line(reply))
-        else:
-            for _ in range(lines_behind(reply[0])):
-                reply.append(self._line(reply))
+        """Returns the lines of a reply. How many they are, its first line says. Raises Ended where they are fewer."""
+        out = self._process.stdout
+        assert out
+        first = out.readline().decode(errors="replace")
+        reply = [first.rstrip("\n")] if first else []
+        if not first.endswith("\n") or first.startswith(ENDS):
+            raise Ended(reply, self.close())
+        # (a reply of a million lines is taken as one text, which takes a fraction of the time)
+        rest = list(to_end(out)) if is_texted(reply[0]) else list(islice(out, lines_behind(reply[0])))
+        reply += b"".join(rest).decode(errors="replace").removesuffix("\n").split("\n") if rest else []
+        if not is_last(reply) or not (rest or [b"\n"])[-1].endswith(b"\n"):
+            raise Ended(reply, self.close())
         return reply
-
-    def _line(self, before: list[str]) -> str:
-        assert self._process.stdout
-        found = self._process.stdout.readline().decode(errors="replace")
-        line = found.rstrip("\n")
-        if not found.endswith("\n") or (not before and line.startswith(ENDS)):
-            raise Ended([*before, line] if found else before, self.close())
-        return line
 
     def __enter__(self) -> LineSession:
         return self

@@ -6,7 +6,7 @@ from collections.abc import Iterable
 from fractions import Fraction
 from typing import Any, Dict, List, NamedTuple
 
-from .numbers import UNITS, Interval, read_interval, read_units
+from .numbers import UNITS, Interval, read_all_ns, read_units
 
 
 def split_name(name: str) -> tuple[str, int]:
@@ -82,5 +82,5 @@ def read_times(lines: list[str]) -> Times:
     >>> read_times(["times 2", "a#1 0.000000000 0.000000000", "b#1 25.500000000 +inf"])["b#1"]
     Interval(least=25500000000, greatest=None)
     """
-    words = (line.split(" ") for line in lines[1:])
-    return Times((name, read_interval(least, greatest)) for name, least, greatest in words)
+    words = " ".join(lines[1:]).split(" ") if len(lines) > 1 else []
+    return Times(zip(words[::3], map(Interval, read_all_ns(words[1::3]), read_all_ns(words[2::3]))))

@@ -1,8 +1,10 @@
 """Pictures of clocks and of delays over time, in SVG: a panel for each clock, and one for each link, with both ends of what is certain of all events."""
 
+from bisect import bisect_right
 from collections.abc import Iterator
 from dataclasses import dataclass, field
 from html import escape
+from itertools import groupby
 from operator import itemgetter
 
 from delays import Delays
@@ -135,8 +137,7 @@ class Drawing:
 
     def svg(self) -> list[str]:
         """Returns the panel."""
-        least, greatest = best_known(self.panel.points)
-        told = f"{self.panel.title}; at the best known moment {span_text(least, greatest)}" if not self.panel.has_histogram else self.panel.title
+        told = self.panel.title + ("" if self.panel.has_histogram else f"; at the best known moment {span_text(*best_known(self.panel.points))}")
         out = [f'<text x="{LEFT}" y="{HEAD - 8}" font-size="12" font-weight="bold" fill="{self.panel.ink}">{escape(plain(told))}</text>', *self.axes()]
         if len(self.panel.points) > self.right - LEFT:
             out += self.envelope()
@@ -177,14 +178,15 @@ class Drawing:
 
     def columns(self) -> Iterator[tuple[int, list[float]]]:
         """Yields for each column, with points, its middle, where the highest and the lowest of their greatest ends lie, and of their least ends."""
-        found: dict[int, list[int]] = {}
-        wide = self.column_wide()
-        for time, least, greatest in self.panel.points:
-            low, high = self.low if least is None else least, self.high if greatest is None else greatest
-            own = found.setdefault(round(self.x(time) / wide) * wide, [high, high, low, low])
-            own[:] = max(own[0], high), min(own[1], high), max(own[2], low), min(own[3], low)
-        for at, own in sorted(found.items()):
-            yield at, [self.y(it, 0) for it in own]
+        points, wide = self.panel.points, self.column_wide()
+        lows = [self.low if least is None else least for _, least, _ in points]
+        highs = [self.high if greatest is None else greatest for _, _, greatest in points]
+        begin = 0
+        for at, own in groupby(round(self.x(time) / wide) * wide for time, _, _ in points):
+            end = begin + len(list(own))
+            high, low = highs[begin:end], lows[begin:end]
+            yield at, [self.y(it, 0) for it in (max(high), min(high), max(low), min(low))]
+            begin = end
 
     def envelope(self) -> list[str]:
         """Returns what many points cover: of each column all between the ends, and more strongly where the ends themselves lie."""
@@ -196,14 +198,18 @@ class Drawing:
         wide = self.column_wide()
         return [f'<path d="{path}" stroke="{ink}" stroke-width="{wide}" stroke-opacity="{shade}" fill="none"/>' for path, (ink, shade) in zip(paths, shades)]
 
+    def counts(self, ends: list[int]) -> list[int]:
+        """Returns how many of these ends lie in each bar, from the top."""
+        ends.sort()
+        # (what lies between two bars is in the lower one)
+        feet = [self.high + -at * (self.high - self.low) // BARS for at in range(1, BARS)]
+        above = [0, *(len(ends) - bisect_right(ends, foot) for foot in feet), len(ends)]
+        return [after - before for before, after in zip(above, above[1:])]
+
     def histogram(self) -> list[str]:
         """Returns how many points have their least end, and their greatest, at each height."""
         left, foot, size = self.right + GAP, HEAD + HIGH, HIGH / BARS
-        counts = [[0] * BARS, [0] * BARS]
-        for _, *ends in self.panel.points:
-            for own, end in zip(counts, ends):
-                if end is not None:
-                    own[min(max((self.high - end) * BARS // (self.high - self.low), 0), BARS - 1)] += 1
+        counts = [self.counts([it for _, it, _ in self.panel.points if it is not None]), self.counts([it for _, _, it in self.panel.points if it is not None])]
         most = max(max(own) for own in counts) or 1
         out = [f'<rect x="{left}" y="{HEAD}" width="{SIDE}" height="{HIGH}" fill="none" stroke="#bbb"/>']
         for own, ink in zip(counts, ("#333", self.panel.ink)):

@@ -20,21 +20,9 @@ class Delays:
         for row in self.rows:
             if it.send in row and it.receive in row:
                 (early, late), (from_least, to_most) = row[it.send], row[it.receive]
-                least = greater(least, less_than(from_least, late))
-                most = smaller(most, less_than(to_most, early))
+                # (None is an infinite end; there are millions of messages, so no function is called for each end)
+                if from_least is not None and late is not None and (least is None or from_least - late > least):
+                    least = from_least - late
+                if to_most is not None and early is not None and (most is None or to_most - early < most):
+                    most = to_most - early
         return Interval(least, most)
-
-
-def less_than(end: int | None, other: int | None) -> int | None:
-    """Returns an end less another one, None where either is infinite."""
-    return None if end is None or other is None else end - other
-
-
-def greater(one: int | None, other: int | None) -> int | None:
-    """Returns the greater of two least ends."""
-    return one if other is None else other if one is None else max(one, other)
-
-
-def smaller(one: int | None, other: int | None) -> int | None:
-    """Returns the smaller of two greatest ends."""
-    return one if other is None else other if one is None else min(one, other)

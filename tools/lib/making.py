@@ -81,6 +81,7 @@ class Making:
         self.proved = [pair_of(word) for word in said.proved]
         self.delays, self.events, self.held = said.delays, said.events, said.page
         self.charts: dict[str, str] = {}
+        self.told: Words | None = None
         # (questions for orders come last, and would have the program compiled once more)
         self.pairs = said.pairs if said.pairs is not None or self.program else 0
         self.outputs = {name: getattr(said, name) for name in OUTPUTS if getattr(said, name)}
@@ -163,7 +164,8 @@ class Making:
         """Tells what was found, and writes the outputs. Returns the status."""
         explainer = Explainer(declaration=self.declaration, program=self.program)
         self.progress.begin("telling what was found")
-        self.say(*Words(found).lines())
+        self.told = Words(found)
+        self.say(*self.told.lines())
         refused = [(f"add {it.label} {it.path}", reply.split(" ")) for it, reply in found.added if reply.startswith("refused ")]
         for line, words in refused:
             self.say(f"{' '.join(words)}: {explainer.refusals.told(line, words[1:])}.")
@@ -228,7 +230,7 @@ class Making:
             return self.chart(name, found)
         if name == "html":
             charts = [self.chart(it, found) for it in CHARTS]
-            return page(found, f"Timeline of {', '.join(found.hosts)}", self.held, self.chosen[:1], charts)
+            return page(found, f"Timeline of {', '.join(found.hosts)}", self.held, self.chosen[:1], charts, self.told)
         if name == "svg":
             return picture.svg(found, self.events, self.chosen[:1])
         if name == "list":
@@ -250,7 +252,7 @@ class Making:
 
     def keep_lines(self, name: str, texts: Iterable[list[str]]) -> None:
         """Writes a file of the lines of several texts into the folder."""
-        write_parts(f"{self.folder}/{name}", ("".join(f"{line}\n" for line in text).encode() for text in texts))
+        write_parts(f"{self.folder}/{name}", ("\n".join([*text, ""]).encode() for text in texts))
 
     def say(self, *lines: str) -> None:
         """Says lines on the standard output, or on the standard error where an output goes there: without signs that cannot be seen."""

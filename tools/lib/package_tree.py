@@ -18,8 +18,9 @@ DOCUMENTS = "share/doc/tracesync"
 # The package of Python, which stands beside the tools as in a clone, and by what the Python of a system finds it.
 PYTHON_PACKAGE = "python/tracesync/"
 PATH_FILE, PATH_LINE = "lib/python3/dist-packages/tracesync.pth", "../../tracesync/python\n"
-# Pages for whoever uses the program, with the names that things have where they are installed; and what is packed as it is.
-PAGES = ("docs/FORMATS.md", "docs/GUIDE.md", "docs/VANTAGE.md", "docs/PROBLEMS.md")
+# Pages for whoever uses the program, with the names that things have where they are installed; and folders and files that are packed as they are.
+PAGES = ("docs/FORMATS.md", "docs/GUIDE.md", "docs/VANTAGE.md", "docs/LOGS.md", "docs/PROBLEMS.md", "docs/PERFORMANCE.md")
+FOLDERS = ("docs/pictures/", "examples/")
 KEPT = ("CHANGELOG.md", "docs/contradiction.svg", "docs/timeline-page.png", "docs/timeline.svg")
 
 
@@ -118,7 +119,7 @@ class Tree:
         """Adds the pages, the examples that they name, and what is known of the proof."""
         for it in PAGES:
             self.put(f"{DOCUMENTS}/{it}", renamed(text_of(f"{self.top}/{it}")))
-        for it in (*KEPT, *(it for it in self.files if it.startswith("examples/"))):
+        for it in (*KEPT, *(it for it in self.files if it.startswith(FOLDERS))):
             self.found[f"{DOCUMENTS}/{it}"] = File(read(f"{self.top}/{it}"))
         self.put(f"{DOCUMENTS}/PROOF.txt", proof_text(self.top, self.files, self.commit, proof, self.program, PROGRAM))
 

@@ -83,9 +83,9 @@ def part_of(found: Timeline, part: list[Event]) -> Timeline:
     return replace(found, events=events, messages=messages, orders=orders)
 
 
-def page_data(whole: Timeline, most: int, around: Collection[str]) -> dict[str, Any]:
+def page_data(words: Words, most: int, around: Collection[str]) -> dict[str, Any]:
     """Returns what the page draws, as values of JSON: numbers of ns are texts, so that no digit is lost."""
-    words = Words(whole)
+    whole = words.found
     part, told = held_events(whole, most, around)
     found = part_of(whole, part) if told else whole
     hosts = {host: at for at, host in enumerate(found.hosts)}
@@ -104,16 +104,17 @@ def page_data(whole: Timeline, most: int, around: Collection[str]) -> dict[str, 
         "orders": {f"{places[one]},{places[other]}": order[0] for (one, other), order in found.orders.items()},
         "proofs": proof_data(found, places),
         **record_data(found),
-        "words": [*words.files(), *words.matched(), *words.offsets(), *words.notes(), *([f"Note: {told}."] if told else [])],
-        "delays": words.delay_rows(),
+        "words": [*words.files(), *words.matched(), *words.offsets, *words.notes(), *([f"Note: {told}."] if told else [])],
+        "delays": words.delay_rows,
     }
 
 
-def page(found: Timeline, title: str, most: int = EVENTS_MOST, around: Collection[str] = (), pictures: Iterable[str] | None = None) -> str:
-    """Returns the page of at most so many events, around the first of these names; with the pictures of clocks and of delays, which are drawn
-    for it where none are given."""
+def page(found: Timeline, title: str, most: int = EVENTS_MOST, around: Collection[str] = (), pictures: Iterable[str] | None = None, words: Words | None = None) -> str:
+    """Returns the page of at most so many events, around the first of these names; with the pictures of clocks and of delays, and what the
+    timeline says in words, which are made for it where none are given."""
     # (no text can end the script, nor the text in it, which a browser reads sooner than the same as a part of the script)
-    data = json.dumps(page_data(found, most, around), separators=(",", ":")).replace("<", "\\u003c").replace("\\", "\\\\").replace("'", "\\'")
+    text = json.dumps(page_data(words or Words(found), most, around), separators=(",", ":"))
+    data = text.replace("<", "\\u003c").replace("\\", "\\\\").replace("'", "\\'")
     charts = "".join(embedded(it) for it in pictures or (offset_chart(found), delay_chart(found)))
     parts = {"TITLE": escape(title), "DATA": data, "CHARTS": charts or "<p>Nothing is known of clocks or delays.</p>", "SCRIPT": "".join(part(it) for it in SCRIPTS)}
     return re.sub("@@([A-Z]+)@@", lambda it: parts[it[1]], part("page.html"))

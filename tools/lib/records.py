@@ -1,15 +1,14 @@
 """What stands behind an event: the packet or row that it is, its connection, and where that stands in its file."""
 
 from collections.abc import Iterator
-from dataclasses import dataclass
+from typing import NamedTuple
 
 from captures import Packet
 from headers import PROTOCOLS, TCP, UDP, decode, described, end_text, short_address
 from inputs import Input
 
 
-@dataclass(frozen=True, slots=True)
-class Record:
+class Record(NamedTuple):
     """A packet or row: in words and in few words, the two ends of its connection, the key of a row, and its file with the
     number that Wireshark gives it as a frame, None where it is no packet or versions differ."""
 

@@ -27,14 +27,15 @@ Question = tuple[str, Callable[[list[str]], None]]
 
 FROM_MOST = 8
 # How many messages of a link are asked for if not said, at most and at least: an answer may take a search over all events, so questions
-# times events are kept below a number; the same of questions about orders.
-DELAYS_MOST, DELAYS_LEAST, DELAYS_WORK, PAIRS_WORK = 1000, 4, 6_000_000, 3_000_000
+# times events are kept below a number; where links times events are more than the second one, none is asked. The same of questions about orders.
+DELAYS_MOST, DELAYS_LEAST, DELAYS_WORK, LINKS_WORK, PAIRS_WORK = 1000, 1, 6_000_000, 100_000_000, 3_000_000
 # How many proofs are asked for that nobody named, times the events: each reply has several lines for each event.
 PROOFS_WORK = 10_000
 # Of so few lines it is not told how many were answered.
 FEW = 20
 # The reply where the source has no event.
 NO_SOURCE = "refused 29"
+NO_RECORD = Record()
 BEFORE, AFTER, SAME, OPEN = "before", "after", "same", "open"
 
 
@@ -50,7 +51,7 @@ class Event:
     text: str = ""
     brief: str = ""
     source_time: Interval | None = None
-    record: Record = Record()
+    record: Record = NO_RECORD
 
 
 @dataclass(slots=True)
@@ -163,7 +164,7 @@ class Asking:
         records = self.records(problem)
         for name, time, text in merged:
             host, stamp = problem.events[name]
-            it = records.get(name, Record())
+            it = records.get(name, NO_RECORD)
             self.found.events.append(Event(name, host, stamp, time, text or it.text, text or it.brief, record=it))
         self.found.hosts = list(dict.fromkeys([*(it.host for it in self.found.events), *problem.clocks]))
         self.found.messages = [Message(*ends, declared=declared_of(it)) for ends, it in problem.messages.items()]
@@ -211,8 +212,8 @@ class Asking:
         """Returns how many questions are asked of each of so many groups: what was said, or so many that all stay quick."""
         if self.delays is not None:
             return self.delays
-        each = DELAYS_WORK // max(len(self.found.events), 1) // max(groups, 1)
-        return min(max(each, DELAYS_LEAST), DELAYS_MOST)
+        work = max(len(self.found.events), 1) * max(groups, 1)
+        return min(max(DELAYS_WORK // work, DELAYS_LEAST), DELAYS_MOST) if work <= LINKS_WORK else 0
 
     def times(self) -> Iterator[Question]:
         """Yields the question when all events were by the clock of the source, if there is one."""

@@ -6,8 +6,8 @@ import sys
 from dataclasses import dataclass
 
 # The tools that serve outside of a clone; those of them that run the program; and the Python that they need.
-TOOLS = ("declare", "diagram", "explain", "rows", "timeline")
-RUNNING = ("declare", "explain", "timeline")
+TOOLS = ("declare", "diagram", "explain", "rows", "spans", "timeline")
+RUNNING = ("declare", "explain", "spans", "timeline")
 PYTHON = "3.11"
 # What is called otherwise where it is installed, in this order.
 NAMES = (

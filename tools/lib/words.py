@@ -1,6 +1,7 @@
 """What a timeline says, in words."""
 
 from collections.abc import Mapping
+from functools import cached_property
 from statistics import median_high, median_low
 from typing import Any
 
@@ -115,15 +116,14 @@ def told_again(report: Mapping[str, Any], declared: Mapping[str, Any], declarati
 
 
 class Words:
-    """Tells a timeline."""
+    """Tells a timeline, which stays as it is: what goes over all events and messages is worked out once."""
 
     def __init__(self, found: Timeline) -> None:
         self.found = found
-        self.host_of = {it.name: it.host for it in found.events}
 
     def lines(self) -> list[str]:
         """Returns what was matched and what was not, and the delays of each link."""
-        return [*self.files(), *self.matched(), *self.delays(), *self.offsets(), *self.notes()]
+        return [*self.files(), *self.matched(), *self.delays(), *self.offsets, *self.notes()]
 
     def notes(self) -> list[str]:
         return [f"Note: {it}." for it in self.found.notes]
@@ -159,8 +159,9 @@ class Words:
             lines.append(f"{alone_text(report['alone'])}.")
         return lines
 
+    @cached_property
     def offsets(self) -> list[str]:
-        """Returns how far each host's stamps are ahead of the source's clock, where that is known best: a stamp less its ends of `time`."""
+        """How far each host's stamps are ahead of the source's clock, where that is known best: a stamp less its ends of `time`."""
         found: dict[str, tuple[int, int, str]] = {}
         for it in self.found.events:
             early, late = it.source_time or (None, None)
@@ -171,12 +172,14 @@ class Words:
         lines = [f"{host}: {span_text(least, greatest)}, at {name}" for host, (least, greatest, name) in found.items()]
         return ["How far stamps are ahead of the clock of the source, where that is known best:", *lines, ""] if lines else []
 
+    @cached_property
     def delay_rows(self) -> list[tuple[str, ...]]:
-        """Returns a table of one-way delays: for each link the least, the medians of both ends, and the greatest; nothing without delays."""
+        """A table of one-way delays: for each link the least, the medians of both ends, and the greatest; nothing without delays."""
+        host_of = {it.name: it.host for it in self.found.events}
         links: dict[tuple[str, str], list[Interval]] = {}
         counts: dict[tuple[str, str], int] = {}
         for it in self.found.messages:
-            link = (self.host_of[it.send], self.host_of[it.receive])
+            link = (host_of[it.send], host_of[it.receive])
             counts[link] = counts.get(link, 0) + 1
             if it.delay:
                 links.setdefault(link, []).append(it.delay)
@@ -193,7 +196,7 @@ class Words:
 
     def delays(self) -> list[str]:
         """Returns the table of delays as lines."""
-        rows = self.delay_rows()
+        rows = self.delay_rows
         if not rows:
             return []
         wide = [max(len(row[at]) for row in rows) for at in range(len(rows[0]))]

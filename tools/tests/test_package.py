@@ -24,6 +24,8 @@ ECHO = shutil.which("echo") or ""
 IS_THERE = all(map(shutil.which, ("git", "dpkg-deb", "bash"))) and ECHO
 PARTS = ("tracesync", "CHANGELOG.md", "crates.txt", "docs", "examples/session", "packaging", "python", "tools")
 SECONDS = 1_700_000_000
+# A page that a package has not, since it is for whoever has a clone.
+FOR_OTHERS = ("docs/CLAIMS.md",)
 GIT = {f"GIT_{who}_{what}": text for who in ("AUTHOR", "COMMITTER") for what, text in (("NAME", "a"), ("EMAIL", "a@a"), ("DATE", f"{SECONDS} +0000"))}
 ENVIRONMENT = {**{name: text for name, text in os.environ.items() if name != "PROGRAM"}, **GIT, "GIT_CONFIG_GLOBAL": os.devnull, "GIT_CONFIG_SYSTEM": os.devnull}
 
@@ -160,6 +162,14 @@ class Package(unittest.TestCase):
                 self.assertNotIn(name, ran.stdout)
             self.assertEqual(self.call(f"tracesync-{tool}", "--what").returncode, 2)
         self.assertIn("it is for a clone".replace("it ", ""), self.call("tracesync-timeline", "--look", "a=b").stderr)
+
+    def test_what_the_pages_name_stands_there(self) -> None:
+        folder = self.own / "share/doc/tracesync"
+        for page in (folder / "docs").glob("*.md"):
+            text = page.read_text()
+            links = [page.parent / it for it in re.findall(r"\]\(([^):]+)\)", text)]
+            pages = [folder / it for it in re.findall(r"`(docs/[A-Z]+\.md)`", text) if it not in FOR_OTHERS]
+            self.assertEqual([str(it.relative_to(folder)) for it in (*links, *pages) if not it.exists()], [], page.name)
 
     def test_tools_run_the_program_that_is_named(self) -> None:
         program = self.room / "program"

@@ -89,6 +89,7 @@ class Size(unittest.TestCase):
 
     def test_fewer_delays_of_many_links(self) -> None:
         self.assertEqual([self.most(11_631, links) for links in (1, 2, 20)], [515, 257, 25])
+        self.assertEqual([self.most(1_000_000, links) for links in (1, 6, 56, 100, 101)], [6, 1, 1, 1, 0])
 
     def test_a_number_that_was_said_holds(self) -> None:
         self.assertEqual(self.most(2_000_000, 2, 5000), 5000)

@@ -178,7 +178,7 @@ class Asking(unittest.TestCase):
 
     def test_how_far_stamps_are_ahead_is_the_stamp_less_its_time(self) -> None:
         found = timeline.Asking(Replies(), [], source="a").timeline()
-        self.assertEqual(Words(found).offsets(), ["How far stamps are ahead of the clock of the source, where that is known best:", "b: -10 ns to -0.5 ns, at b#2", ""])
+        self.assertEqual(Words(found).offsets, ["How far stamps are ahead of the clock of the source, where that is known best:", "b: -10 ns to -0.5 ns, at b#2", ""])
 
     def test_a_contradiction_has_no_events(self) -> None:
         found, _ = made(merge=["certificate 1", "cycle", "step early a#1 0.000000000", "end"])

@@ -44,7 +44,7 @@ class Spans(unittest.TestCase):
     def test_an_offset_of_an_hour(self) -> None:
         reply = [f"{name} -3600000000000.000000000 -3599999998045.000000000" for name in ("a#1", "a#2", "b#1", "b#2", "b#3")]
         found = timeline.Asking(Replies(times=["times 5", *reply]), [], source="a").timeline()
-        self.assertEqual(Words(found).offsets()[1], "b: 3600 s, less 1.705 us, plus 250 ns, at b#1")
+        self.assertEqual(Words(found).offsets[1], "b: 3600 s, less 1.705 us, plus 250 ns, at b#1")
 
     def test_a_list_in_words(self) -> None:
         found, _ = made()
