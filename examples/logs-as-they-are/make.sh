@@ -3,9 +3,9 @@
 #
 #     sudo ./make.sh FOLDER
 #
-# It needs nginx, rsyslogd, systemd-journald, strace and Python 3. NGINX_PROGRAM, RSYSLOGD_PROGRAM and JOURNALD_PROGRAM
-# name other places of the first three. A client asks nginx three times, on 127.0.0.1 alone, while strace looks at it.
-# And web asks app three times, and both tell a daemon of it: once rsyslogd, which writes a file of RFC 3164 for web and
+# It needs nginx, rsyslogd, systemd-journald, Redis, strace and Python 3. NGINX_PROGRAM, RSYSLOGD_PROGRAM and
+# JOURNALD_PROGRAM name other places of the first three. A client asks nginx three times, on 127.0.0.1 alone, while strace
+# looks at it. Redis is asked twice, while its MONITOR tells what comes. And web asks app three times, and both tell a daemon of it: once rsyslogd, which writes a file of RFC 3164 for web and
 # one of RFC 5424 for app, and once systemd-journald. All runs in a room of its own (unshare), and what was started is
 # stopped. The samples of Zeek, OTLP and Jaeger are none of these: they were written by hand.
 set -euo pipefail
@@ -36,6 +36,20 @@ strace -f -ttt -T -yy -s 200 -e trace=network,close -o calls.strace python3 "$he
 grep -a 'TCP:\|socket(AF_INET' calls.strace > "$to/client.strace"
 kill $nginx
 cp gate.log access.log "$to"
+
+TZ=UTC redis-server --port 18379 --bind 127.0.0.1 --save "" --dir "$room" --logfile "$room/redis.log" &
+redis=$!
+sleep 2
+redis-cli -p 18379 MONITOR > monitor.log &
+monitor=$!
+sleep 1
+redis-cli -p 18379 SET cart:7f3a 2
+redis-cli -p 18379 GET cart:7f3a
+sleep 1
+kill $monitor
+kill $redis
+wait $redis || true
+cp redis.log monitor.log "$to"
 
 cat > rsyslog.conf << RSYSLOG
 global(workDirectory="$room" localHostname="lab")
