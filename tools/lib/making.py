@@ -155,7 +155,9 @@ class Making:
         for path in (last, self.declaration):
             write_own(path, text)
         self.say(f"Wrote {self.declaration}: every answer follows from it, so look at each line.")
-        self.say(*(f"{it[0].upper()}{it[1:]}." for it in declaring.notes()))
+        # (the name of a file stays as it is)
+        files = tuple(plain(it.shown) for it in inputs)
+        self.say(*(f"{it if it.startswith(files) else it[0].upper() + it[1:]}." for it in declaring.notes()))
         pairs = {host: declaring.placing.open(host) for host in declaring.ends.open}
         self.asked = [host for host, found in pairs.items() if found]
         self.say(*unknown_lines(pairs.items(), self.declaration))

@@ -115,6 +115,16 @@ class Delays(unittest.TestCase):
         drawing = charts.Drawing(charts.delay_panels(many(5))[0], 0, 4 * 10**6 * UNITS)
         self.assertIn('text-anchor="end" fill="#666">5</text>', "".join(drawing.histogram()))
 
+    def test_a_bar_of_a_histogram_has_what_lies_between_its_borders(self) -> None:
+        drawing = charts.Drawing(charts.Panel("x", "#000", [(0, 0, 100), (10, 50, None)], True), 0, 10)
+        for low, high in ((0, charts.BARS), (-7, 1000), (3, 3 + 5 * charts.BARS), (0, 20)):
+            drawing.low, drawing.high = low, high
+            ends = [*range(low, high + 1), low, low, high]
+            wanted = [0] * charts.BARS
+            for end in ends:
+                wanted[min((high - end) * charts.BARS // (high - low), charts.BARS - 1)] += 1
+            self.assertEqual(drawing.counts(ends), wanted)
+
     def test_a_bar_goes_from_end_to_end(self) -> None:
         panel = charts.Panel("x", "#000", [(0, 0, 100), (10, 50, None)])
         drawing = charts.Drawing(panel, 0, 10)

@@ -9,7 +9,7 @@ import unittest
 from command_line import Parser, natural
 from common import TOOLS
 
-TOLD = ("build", "declare", "diagram", "explain", "rows", "test", "timeline")
+TOLD = ("build", "declare", "diagram", "explain", "rows", "spans", "test", "timeline")
 
 
 def parser() -> Parser:

@@ -14,6 +14,7 @@ import timeline
 from chains import Chain, Leg, Proof
 from test_page import run_page
 from tracesync.numbers import UNITS, Interval
+from tracesync.problems import Problem
 
 COUNT, HELD, HOSTS = 20_000, 2000, 4
 # The paths of an envelope by their shade: between both ends, where the greatest lie, and where the least do.
@@ -106,6 +107,20 @@ class Great(unittest.TestCase):
         self.assertLessEqual(held.items(), ends.items())
         part = set(names[1:-1])
         self.assertEqual({send for send, receive in ends.items() if send in part and receive in part} - held.keys(), set())
+
+    def test_few_questions_are_asked_of_many_events(self) -> None:
+        asked = [self.questions_of(count) for count in (COUNT, 50 * COUNT)]
+        links = HOSTS * (HOSTS - 1)
+        self.assertEqual(asked, [(links * (timeline.DELAYS_WORK // COUNT // links), 0), (links * timeline.DELAYS_LEAST, 0)])
+
+    def questions_of(self, count: int) -> tuple[int, int]:
+        """Returns how many delays and how many proofs are asked for, of which nobody named one, where the events are so many."""
+        found = great()
+        asking = timeline.Asking(None, [])
+        asking.found = timeline.Timeline(events=found.events[:1] * count, messages=found.messages)
+        hosts = {it.name: (it.host, it.stamp) for it in found.events}
+        delays = len(list(asking.delays_of(Problem(events=hosts))))
+        return delays, len(asking.first_events())
 
     def test_its_size_does_not_grow_with_the_events(self) -> None:
         few, many = (len(page.page(great(count), "Great", HELD)) for count in (COUNT // 2, COUNT))

@@ -61,6 +61,11 @@ class Outputs(unittest.TestCase):
         self.assertIn("=1+1?[31m", said.stdout)
         self.assertNotIn("\x1b", said.stdout + said.stderr)
 
+    def test_a_row_that_is_none_is_told_with_its_file(self) -> None:
+        with open(f"{self.room}/b.csv", "a", encoding="utf-8") as it:
+            it.write("302;local;;\n")
+        self.assertIn("\nb.csv: record 4 is no row STAMP,KIND,KEY,TEXT: ", self.timeline().stdout)
+
     def test_no_link_in_the_folder_is_followed(self) -> None:
         for name in (".hosts.toml", "hosts.toml", "script.txt", "replies.txt", "timeline.html", "timeline.svg", "offsets.svg", "delays.svg"):
             with self.subTest(name), tempfile.TemporaryDirectory() as other:
