@@ -161,13 +161,15 @@ class Asking:
 
     def take_events(self, problem: Problem, merged: Merge) -> None:
         """Takes the events in the order of the merge, hosts by their first events, and messages."""
-        records = self.records(problem)
+        records, events = self.records(problem), self.found.events
         for name, time, text in merged:
             host, stamp = problem.events[name]
             it = records.get(name, NO_RECORD)
-            self.found.events.append(Event(name, host, stamp, time, text or it.text, text or it.brief, record=it))
-        self.found.hosts = list(dict.fromkeys([*(it.host for it in self.found.events), *problem.clocks]))
-        self.found.messages = [Message(*ends, declared=declared_of(it)) for ends, it in problem.messages.items()]
+            events.append(Event(name, host, stamp, time, text or it.text, text or it.brief, None, it))
+        self.found.hosts = list(dict.fromkeys([*(it.host for it in events), *problem.clocks]))
+        # (a link has one declared delay, and mostly many messages)
+        declared = {it: declared_of(it) for it in set(problem.messages.values())}
+        self.found.messages = [Message(*ends, None, declared[it]) for ends, it in problem.messages.items()]
 
     def records(self, problem: Problem) -> dict[str, Record]:
         """Returns the packet or row behind each event; nothing of a label with another number of events."""
