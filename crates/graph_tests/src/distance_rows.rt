@@ -1,14 +1,15 @@
-// Rows of a graph in both directions, and a row that is repaired when an arc more comes.
+// Rows of a graph in both directions, a row that is repaired when an arc more comes, and differences of near nodes.
 ghost use Rattle.std.specs.Prelude.{◌≡◌, ◌<◌, true, length};
 ghost use Rattle.earliest.specs.Values.{IsEarliestOf};
+ghost use Rattle.distances.specs.Ends.{AreRowsAround};
 
 use crate::fixtures::{Link, bring_in, execute, fill, two_clocks};
 use atto::Steps;
-use distances::{Search, Side, make_row, repair_row};
+use distances::{Scratch, Search, Side, Surroundings, find_near, make_row, repair_row};
 use earliest::Earliest;
 use frontier::IdleQueue;
 use problem_model::Node;
-use row_pool::Cell;
+use row_pool::{Cell, Reach};
 use std::alloc::Global;
 use std::marker::Brand;
 use std::sync::ledger::{Blank, Ledger};
@@ -182,4 +183,92 @@ fn two_clocks_repaired<L: Ledger>(alloc: Global, blank: Blank) -> bool
 #[test]
 fn a_row_is_repaired_after_an_arc_more(rt: HostRuntime) {
     assert!(rt; two_clocks_repaired::<Brand>(rt.alloc(), Blank::new(1)));
+}
+
+// Event 1 is behind event 0 by 2 to 5 units, and event 2 by 3 to 7; event 2 is at most 1 behind event 1, and that at most 6
+// behind event 2.
+const AROUND: [Link; 6] = [
+    (0, 1, 5),
+    (1, 0, -2),
+    (0, 2, 7),
+    (2, 0, -3),
+    (1, 2, 1),
+    (2, 1, 6),
+];
+
+// Whether one of three nodes is so many units behind another at most, as a few nodes tell.
+fn near_is<L: Ledger>(
+    alloc: Global,
+    around: &Surroundings,
+    ask: &Link,
+    queue: &mut IdleQueue,
+    steps: &mut Steps<L>,
+) -> bool
+    requires solved { around.now.earliest.now.is_solved ≡ true }
+    requires earliest { IsEarliestOf around.now.graph.now around.now.earliest.now.values }
+    requires rows { AreRowsAround around.now.graph.now around.now.from.now around.now.to.now }
+    requires nodes { length around.now.graph.now.nodes ≡ 3 }
+    requires room { queue.old ≡ 3 }
+    ensures room { queue.new ≡ 3 }
+{
+    let (p, q, want) = *ask;
+    let mut behind = Scratch::new(alloc);
+    let mut ahead = Scratch::new(alloc);
+    if p >= 3 || q >= 3 || behind.reserve(3).is_err() || ahead.reserve(3).is_err() {
+        return false;
+    }
+    find_near(around, p, q, &mut behind, &mut ahead, queue, steps) == Some(Reach::At(want))
+}
+
+// The difference from event 1 to event 2 is that of their own arc, the one back goes over event 0.
+fn near_are_right<L: Ledger>(
+    alloc: Global,
+    g: &Graph,
+    e: &Earliest,
+    queue: &mut IdleQueue,
+    steps: &mut Steps<L>,
+) -> bool
+    requires nodes { length g.now.nodes ≡ 3 }
+    requires solved { e.now.is_solved ≡ true }
+    requires earliest { IsEarliestOf g.now e.now.values }
+    requires room { queue.old ≡ 3 }
+{
+    let search = Search::new(g, e, Side::From);
+    let back = search.turned();
+    let mut from = [OLD; 4];
+    let mut to = [OLD; 4];
+    make_row(&search, 0, &mut from, queue, steps);
+    make_row(&back, 0, &mut to, queue, steps);
+    let around = Surroundings {
+        graph: g,
+        earliest: e,
+        from: &from,
+        to: &to,
+    };
+    near_is(alloc, &around, &(1, 2, 1), queue, steps)
+        && near_is(alloc, &around, &(2, 1, 2), queue, steps)
+}
+
+// Whether it is so in the earliest execution of three nodes.
+fn has_near<L: Ledger>(alloc: Global, g: &Graph, steps: &mut Steps<L>) -> bool {
+    if g.nodes() != 3 {
+        return false;
+    }
+    let mut e = Earliest::new(alloc);
+    let mut queue = IdleQueue::new(alloc);
+    execute(g, &mut e, &mut queue, steps) && near_are_right(alloc, g, &e, &mut queue, steps)
+}
+
+// The same once the arcs are among the nodes.
+fn three_are_near<L: Ledger>(alloc: Global, g: &mut Graph, blank: Blank) -> bool
+    requires { (blank.name ≡ L.name) × (blank.parts ≡ L.parts) × (0 < L.parts) }
+{
+    let mut steps = Steps::<L>::open(blank);
+    fill(g, 3, &AROUND) && has_near(alloc, g, &mut steps)
+}
+
+#[test]
+fn few_nodes_tell_of_near_ones(rt: HostRuntime) {
+    let mut g = Graph::new(rt.alloc());
+    assert!(rt; three_are_near::<Brand>(rt.alloc(), &mut g, Blank::new(1)));
 }
