@@ -27,6 +27,9 @@ use row_pool::{Cell, NO_PARENT, Reach};
 use std::sync::ledger::Ledger;
 use sync_graph::Graph;
 
+/// How many nodes a graph has at most in which near ones are searched for: so what guides a search stays below 2^118.
+pub const MOST_AROUND: u32 = 1 << 23;
+
 /// How a search ended that is left after so many nodes.
 #[derive(Clone, Copy, Debug)]
 pub enum End {
@@ -145,7 +148,8 @@ fn is_surrounded(around: &Surroundings, node: u32) -> bool
     cell_of(around.from, node).known && cell_of(around.to, node).known
 }
 
-// Whether a number of units of 1e-9 ns is at most 2^116 in absolute value.
+// Whether a number of units of 1e-9 ns is at most 2^116 in absolute value, as the difference of two nodes is in a graph of
+// at most `MOST_AROUND`.
 fn is_small(number: i128) -> bool
     ensures { result ≡ true → IsUpTo 116 number }
 {
@@ -329,7 +333,7 @@ fn find_within<L: Ledger>(
     // It tells what the lists of the graph hold.
     around.graph.exact();
     let nodes = around.graph.nodes();
-    if nodes > 1 << 23 || nodes as usize > behind.cells() || nodes as usize > ahead.cells() {
+    if nodes > MOST_AROUND || nodes as usize > behind.cells() || nodes as usize > ahead.cells() {
         return None;
     }
     if !is_surrounded(around, q) {
@@ -350,11 +354,12 @@ fn find_within<L: Ledger>(
     found
 }
 
-// How many nodes a search takes before it is left, one time after the other.
-const LIMITS: [usize; 5] = [1024, 4096, 16_384, 131_072, 1_048_576];
+// How many nodes a search takes before it is left, one time after the other, of at most a quarter of all; the search that
+// knows the fence takes twice as many.
+const LIMITS: [usize; 5] = [1024, 4096, 16_384, 65_536, 262_144];
 
-/// The greatest `x_q - x_p` over all executions, in units of 1e-9 ns, if not too many nodes are needed to tell it: some
-/// that are near to either. It takes no memory.
+/// The greatest `x_q - x_p` over all executions, in units of 1e-9 ns, if searches of few nodes tell it, in a graph of at
+/// most 2^23. It takes no memory.
 pub fn find_near<L: Ledger>(
     around: &Surroundings,
     p: u32,
@@ -375,7 +380,11 @@ pub fn find_near<L: Ledger>(
     ensures ahead { ahead.new ≡ ahead.old }
     ensures queue { queue.new ≡ queue.old }
 {
+    let quarter = around.graph.nodes() as usize / 4;
     for most in LIMITS {
+        if most > quarter && most > LIMITS[0] {
+            return None;
+        }
         let found = find_within(around, p, q, most, behind, ahead, queue, steps);
         if found.is_some() {
             return found;

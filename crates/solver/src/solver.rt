@@ -8,7 +8,7 @@ ghost use Rattle.repair.specs.Slots.{nothing_kept, with_room};
 ghost use Rattle.solver.specs.Changes.{KeepsAnswer};
 ghost use Rattle.solver.specs.Current.{IsCurrent, IsSolvedNow, IsContradicted};
 
-use distances::Scratch;
+use distances::{MOST_AROUND, Scratch};
 use earliest::Earliest;
 use earliest::laws::growth;
 use frontier::IdleQueue;
@@ -83,11 +83,11 @@ impl Solver {
     {
         // It tells that rows stay those of a pool that has grown.
         rows_in_a_grown_pool();
-        let guided = guided_nodes(&self.kept, nodes);
-        reserve_near(&mut self.behind, &mut self.ahead, guided);
         self.queue.reserve(nodes)?;
         self.kept.reserve(nodes)?;
         self.pool.reserve(rows, nodes)?;
+        let guided = guided_nodes(&self.kept, nodes);
+        reserve_near(&mut self.behind, &mut self.ahead, guided);
         Ok(())
     }
 
@@ -136,9 +136,10 @@ fn guided_nodes(kept: &Kept, nodes: u32) -> u32 {
     }
 }
 
-// Makes the cells of both at least so many, where memory suffices. Else near nodes are searched for as others are.
+// Makes the cells of both at least so many, where memory suffices and so many nodes may be asked about. Else near nodes are
+// searched for as others are.
 pub(crate) fn reserve_near(behind: &mut Scratch, ahead: &mut Scratch, nodes: u32) {
-    if behind.reserve(nodes).is_ok() {
+    if nodes <= MOST_AROUND && behind.reserve(nodes).is_ok() {
         let _is_enough = ahead.reserve(nodes).is_ok();
     }
 }
