@@ -4,10 +4,11 @@
 #     sudo ./make.sh FOLDER
 #
 # It needs nginx, rsyslogd, systemd-journald, Redis, strace and Python 3. NGINX_PROGRAM, RSYSLOGD_PROGRAM and
-# JOURNALD_PROGRAM name other places of the first three. A client asks nginx three times, on 127.0.0.1 alone, while strace
-# looks at it. Redis is asked twice, while its MONITOR tells what comes. And web asks app three times, and both tell a daemon of it: once rsyslogd, which writes a file of RFC 3164 for web and
-# one of RFC 5424 for app, and once systemd-journald. All runs in a room of its own (unshare), and what was started is
-# stopped. The samples of Zeek, OTLP and Jaeger are none of these: they were written by hand.
+# JOURNALD_PROGRAM name other places of the first three. A client asks nginx three times, on 127.0.0.1 alone, while
+# strace looks at it. Redis is asked twice, while its MONITOR tells what comes. And web asks app three times, and both
+# tell a daemon of it: once rsyslogd, which writes a file of RFC 3164 for web and one of RFC 5424 for app, and once
+# systemd-journald. All runs in a room of its own (unshare), and what was started is stopped. The samples of Zeek, OTLP
+# and Jaeger are none of these: they were written by hand.
 set -euo pipefail
 if [ -z "${IN_ROOM:-}" ]; then
     IN_ROOM=1 exec unshare --mount --uts "$(realpath "$0")" "$(realpath "${1:?a folder for the logs}")"

@@ -27,7 +27,7 @@ Question = tuple[str, Callable[[list[str]], None]]
 
 FROM_MOST = 8
 # How many messages of a link are asked for if not said, at most and at least: an answer may take a search over all events, so questions
-# times events are kept below a number; where links times events are more than the second one, none is asked. The same of questions about orders.
+# times events are kept below DELAYS_WORK; where links times events are more than LINKS_WORK, none is asked. PAIRS_WORK is the same of orders.
 DELAYS_MOST, DELAYS_LEAST, DELAYS_WORK, LINKS_WORK, PAIRS_WORK = 1000, 1, 6_000_000, 100_000_000, 3_000_000
 # How many proofs are asked for that nobody named, times the events: each reply has several lines for each event.
 PROOFS_WORK = 10_000

@@ -1,6 +1,5 @@
 """The package in a root with little more than the C library: it is installed there, answers, writes nothing, and is removed without a trace."""
 
-import os
 import re
 import shutil
 import subprocess
