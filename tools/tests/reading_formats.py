@@ -2,10 +2,17 @@
 
 import json
 import re
+from typing import Any
 
 # Trace Event Format, "JSON Object Format": which phases have which keys beside `ph`, `pid` and `tid`.
 NEEDED = {"M": {"name", "args"}, "X": {"name", "ts", "dur"}, "b": {"name", "cat", "id", "ts"}, "e": {"name", "cat", "id", "ts"},
           "s": {"name", "cat", "id", "ts"}, "f": {"name", "cat", "id", "ts"}}  # fmt: skip
+
+
+def data_of(text: str) -> dict[str, Any]:
+    """Returns what the script of a page reads."""
+    quoted = re.search(r"const DATA = JSON.parse\('(.*)'\);\n", text)[1]
+    return json.loads(re.sub(r"\\(.)", r"\1", quoted))
 
 
 def faults_of_trace_events(text: str) -> list[str]:

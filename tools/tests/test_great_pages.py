@@ -1,17 +1,16 @@
 """Pages of more events than they hold: what they leave out they say, their pictures show all, and they stay small."""
 
-import json
 import re
 import shutil
 import unittest
 from functools import cache
-from typing import Any
 
 import charts
 import making_timelines
 import page
 import timeline
 from chains import Chain, Leg, Proof
+from reading_formats import data_of
 from test_page import run_page
 from tracesync.numbers import UNITS, Interval
 from tracesync.problems import Problem
@@ -29,12 +28,6 @@ def great(count: int = COUNT) -> timeline.Timeline:
     least, greatest = found.ends[found.events[0].name][found.events[count // 2].name]
     found.ends[found.events[0].name][found.events[count // 2].name] = Interval(least - 10**6 * UNITS, greatest + 2 * 10**6 * UNITS)
     return found
-
-
-def data_of(text: str) -> dict[str, Any]:
-    """Returns what the script of a page reads."""
-    quoted = re.search(r"const DATA = JSON.parse\('(.*)'\);\n", text)[1]
-    return json.loads(re.sub(r"\\(.)", r"\1", quoted))
 
 
 def columns_of(panel: str, shade: str) -> dict[int, tuple[float, float]]:

@@ -2,13 +2,13 @@
 
 import json
 import os
-import re
 import subprocess
 import sys
 import tempfile
 import unittest
 
 from common import TOOLS
+from reading_formats import data_of
 from test_timeline import PROBLEM
 
 # A program: its replies are those of the tests of timelines, and others that stand in a file beside it.
@@ -53,7 +53,7 @@ class Recorded(unittest.TestCase):
     def test_a_timeline_with_messages_is_status_0(self) -> None:
         status, said, page = self.timeline({}, (A, B), "--prove", "b#1,a#2")
         self.assertEqual((status, "2 messages among 5 events." in said), (0, True), said)
-        data = json.loads(re.search(r"const DATA = (.*);\n", page)[1])
+        data = data_of(page)
         first = data["proofs"][0]
         self.assertEqual([data["events"][first[it]][0] for it in ("first", "second")], ["b#1", "a#2"])
         self.assertEqual([data["records"][k] for k in (0, 1)], [[-1, 0, 0, "m1"], [-1, 1, 0, "m1"]])

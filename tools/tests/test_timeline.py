@@ -14,7 +14,7 @@ import tables
 import timeline
 from inputs import Input
 from logs import Log
-from reading_formats import faults_of_shiviz, faults_of_trace_events, read_shiviz
+from reading_formats import data_of, faults_of_shiviz, faults_of_trace_events, read_shiviz
 from records import Record
 from tracesync.numbers import UNITS, ns_text, read_ns
 from words import Words, decimal_text, list_lines
@@ -263,7 +263,7 @@ class Outputs(unittest.TestCase):
 
     def test_the_page_holds_the_data_and_nothing_of_a_network(self) -> None:
         text = page.page(made()[0], "Of <a>")
-        data = json.loads(re.search(r"const DATA = (.*);\n", text)[1])
+        data = data_of(text)
         self.assertEqual((data["bases"][0]["greatest"][3], data["orders"], data["events"][2][4]), (None, {"2,3": "o", "3,4": "o"}, "<b>&"))
         self.assertEqual(re.findall(r"https?:|src=|@@|<b>&", text), [])
         self.assertIn("<title>Of &lt;a&gt;</title>", text)
